@@ -1,0 +1,33 @@
+-- 01's "Refusal numbers": the number of each refusal.
+use Prim.Native.Nat.{ℕ}
+use Rattle.packet.specs.declared.Refusal.{Refusal}
+use Rattle.packet.specs.declared.Refusal.the-variants.{Level, Buffering, PayloadTypes, WaitingRoom, Clock, Text, NoText, Space, Short, Long, Version, Header, Padding, PayloadType, Source, BlockHeaders, BlockCount, BlockType, BlockLengths, BlockText}
+use Rattle.packet.specs.declared.Outcome.{Outcome}
+use Rattle.packet.specs.declared.Outcome.the-variants.{Accepted, Refused}
+
+abbrev pub number : Refusal → ℕ
+number Level = 1
+number Buffering = 2
+number PayloadTypes = 3
+number WaitingRoom = 4
+number Clock = 5
+number Text = 6
+number NoText = 7
+number Space = 8
+number Short = 10
+number Long = 11
+number Version = 12
+number Header = 13
+number Padding = 14
+number PayloadType = 15
+number Source = 16
+number BlockHeaders = 17
+number BlockCount = 18
+number BlockType = 19
+number BlockLengths = 20
+number BlockText = 21
+
+-- 0 where a call is accepted
+abbrev pub outcomeNumber : Outcome → ℕ
+outcomeNumber Accepted = 0
+outcomeNumber (Refused r) = number r

@@ -1,0 +1,97 @@
+//! The packets that are timed, in one buffer.
+
+use compare::damage::mutate;
+use compare::plan::{Plan, RED, T140};
+use compare::random::Random;
+
+pub struct Packets {
+    bytes: Vec<u8>,
+    /// Where each packet ends.
+    ends: Vec<usize>,
+}
+
+impl Packets {
+    pub fn new(seed: u64, count: usize) -> Packets {
+        let mut random = Random::new(seed);
+        let mut packets = Packets {
+            bytes: vec![],
+            ends: Vec::with_capacity(count),
+        };
+        for _ in 0..count {
+            let packet = packet(&mut random);
+            packets.bytes.extend(packet);
+            packets.ends.push(packets.bytes.len());
+        }
+        packets
+    }
+
+    pub fn iter(&self) -> impl Iterator<Item = &[u8]> {
+        let mut start = 0;
+        self.ends.iter().map(move |end| {
+            let packet = &self.bytes[start..*end];
+            start = *end;
+            packet
+        })
+    }
+
+    pub fn average(&self) -> f64 {
+        self.bytes.len() as f64 / self.ends.len() as f64
+    }
+}
+
+/// 60 in 100 typed RED, 20 T140, 10 longer, 10 damaged.
+fn packet(random: &mut Random) -> Vec<u8> {
+    match random.below(10) {
+        0..=5 => typed(random).bytes(),
+        6 | 7 => {
+            let mut plan = Plan::new(random, T140);
+            plan.primary = letters(random, 12);
+            plan.bytes()
+        }
+        8 => longer(random).bytes(),
+        _ => {
+            let packet = typed(random).bytes();
+            mutate(random, packet)
+        }
+    }
+}
+
+/// RED with two older blocks, each block of 0 to 6 letters.
+fn typed(random: &mut Random) -> Plan {
+    let mut plan = Plan::new(random, RED);
+    for offset in [600, 300] {
+        plan.older.push((offset, letters(random, 6)));
+    }
+    plan.primary = letters(random, 6);
+    plan
+}
+
+/// RED with pasted text, or T140 with a lot of it.
+fn longer(random: &mut Random) -> Plan {
+    if random.once_in(4) {
+        let mut plan = Plan::new(random, T140);
+        plan.primary = letters(random, 500);
+        return plan;
+    }
+    let mut plan = Plan::new(random, RED);
+    for older in 1..=random.within(2, 4) {
+        plan.older.push((300 * older as u16, letters(random, 150)));
+    }
+    plan.primary = letters(random, 150);
+    plan
+}
+
+/// Up to so many letters, nine of ten of them ASCII.
+fn letters(random: &mut Random, most: usize) -> Vec<u8> {
+    let mut text = String::new();
+    for _ in 0..random.within(0, most) {
+        let letter = match random.below(30) {
+            0 => 'é',
+            1 => '€',
+            2 => '😀',
+            _ => char::from(random.within(0x20, 0x7e) as u8),
+        };
+        text.push(letter);
+    }
+    text.into_bytes()
+}

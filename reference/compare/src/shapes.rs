@@ -1,0 +1,233 @@
+//! Kinds of packets made wrong, or nearly so, in one part.
+
+use crate::check::{Case, Known};
+use crate::damage::BAD;
+use crate::plan::{Plan, RED, T140};
+use crate::random::Random;
+
+/// Every padding count from 0 to past the payload, and no payload at all.
+pub fn padding(random: &mut Random) -> Vec<Case> {
+    let mut plan = match random.below(6) {
+        5 => Plan::new(random, T140),
+        count => Plan::small_red(random, count),
+    };
+    if random.once_in(3) {
+        plan.add_sources(random);
+    }
+    if random.once_in(3) {
+        plan.add_extension(random);
+    }
+    let payload = plan.payload();
+    let mut cases = vec![];
+
+    let mut none = plan.bytes()[..payload].to_vec();
+    none[0] |= 0x20;
+    cases.push(Case::refused(random, none, 14));
+
+    for count in [1, 2, 3, 4, 100, 255] {
+        let mut padded = plan.clone();
+        padded.pad(random, count);
+        cases.push(Case::accepted(random, &padded));
+    }
+    let mut packet = plan.bytes();
+    packet[0] |= 0x20;
+    packet.push(0);
+    let length = packet.len() - payload;
+    for count in 0..=255 {
+        *packet.last_mut().unwrap() = count;
+        let known = match usize::from(count) {
+            0 => Known::Refusal(14),
+            count if count > length => Known::Refusal(14),
+            count if count == length && plan.payload_type == RED => Known::Refusal(17),
+            _ => Known::Nothing,
+        };
+        cases.push(Case::new(random, packet.clone(), known));
+    }
+    cases
+}
+
+/// Each of X and CC, with the packet cut about the ends of both.
+pub fn lists_and_extensions(random: &mut Random) -> Vec<Case> {
+    let count = random.below(5);
+    let mut plan = Plan::small_red(random, count);
+    plan.add_sources(random);
+    if !random.once_in(4) {
+        plan.add_extension(random);
+    }
+    if random.once_in(2) {
+        let count = random.within(1, 9);
+        plan.pad(random, count);
+    }
+    let mut cases = vec![Case::accepted(random, &plan)];
+    let packet = plan.bytes();
+    let payload = plan.payload();
+    for length in 12..payload {
+        cases.push(Case::refused(random, packet[..length].to_vec(), 13));
+    }
+    let end = (payload + 6).min(packet.len());
+    for length in payload..end {
+        cases.push(Case::open(random, packet[..length].to_vec()));
+    }
+    // Another list or another number of words over the same bytes.
+    for sources in 0..16 {
+        let mut other = packet.clone();
+        other[0] = other[0] & 0xf0 | sources;
+        cases.push(Case::open(random, other));
+    }
+    if plan.extension.is_some() {
+        let place = 12 + plan.sources.len() + 2;
+        let left = (packet.len() - place - 2) / 4;
+        for words in [0, 1, left, left + 1, 255, 256, 0x3fff, 0x4000, 0xffff] {
+            let mut other = packet.clone();
+            other[place..place + 2].copy_from_slice(&(words as u16).to_be_bytes());
+            let case = if words > left {
+                Case::refused(random, other, 13)
+            } else {
+                Case::open(random, other)
+            };
+            cases.push(case);
+        }
+    }
+    cases
+}
+
+/// Four good headers, then a fifth with every number of bytes left.
+pub fn fifth_header(random: &mut Random) -> Vec<Case> {
+    let plan = Plan::small_red(random, 4);
+    let packet = plan.bytes();
+    let place = plan.payload() + 16;
+    let mut cases = vec![Case::refused(random, packet[..place].to_vec(), 17)];
+    for left in 0..12 {
+        for first in [0xe2, 0x80, 0xff, 0xe4] {
+            let mut fifth = packet[..place].to_vec();
+            fifth.push(first);
+            fifth.extend(random.bytes(left));
+            cases.push(Case::refused(random, fifth, 18));
+        }
+    }
+    // A wrong type or a short rest in an earlier header comes first.
+    for header in 0..4 {
+        let mut wrong = packet[..place].to_vec();
+        wrong.push(0xe2);
+        wrong[plan.payload() + 4 * header] ^= 1 << random.below(7);
+        cases.push(Case::refused(random, wrong, 19));
+    }
+    cases
+}
+
+/// Each bit of each block's type turned, with and without enough bytes left.
+pub fn wrong_block_types(random: &mut Random) -> Vec<Case> {
+    let count = random.below(5);
+    let plan = Plan::small_red(random, count);
+    let packet = plan.bytes();
+    let mut cases = vec![];
+    for header in 0..=count {
+        let place = plan.payload() + 4 * header;
+        for bit in 0..7 {
+            let mut wrong = packet.clone();
+            wrong[place] ^= 1 << bit;
+            cases.push(Case::refused(random, wrong.clone(), 19));
+            let left = if header == count { 1 } else { 4 };
+            for length in place + 1..place + left {
+                cases.push(Case::refused(random, wrong[..length].to_vec(), 17));
+            }
+        }
+    }
+    cases
+}
+
+/// Lengths that meet the end, pass it by one and by more.
+pub fn lengths_passing_the_end(random: &mut Random) -> Vec<Case> {
+    let count = random.within(1, 4);
+    let mut plan = Plan::red(random, count);
+    plan.primary.clear();
+    let mut cases = vec![Case::accepted(random, &plan)];
+    let packet = plan.bytes();
+    for older in 0..count {
+        let place = plan.payload() + 4 * older + 2;
+        let length = plan.older[older].1.len();
+        for more in [1, 2, 1023 - length.min(1023)] {
+            if more == 0 || length + more > 1023 {
+                continue;
+            }
+            let mut passing = packet.clone();
+            let field = u16::from_be_bytes([passing[place], passing[place + 1]]);
+            let field = field + more as u16;
+            passing[place..place + 2].copy_from_slice(&field.to_be_bytes());
+            cases.push(Case::refused(random, passing, 20));
+        }
+    }
+    if plan.padding.is_empty() && packet.len() > plan.blocks() {
+        let short = packet[..packet.len() - 1].to_vec();
+        cases.push(Case::refused(random, short, 20));
+    }
+    cases
+}
+
+/// Bytes that are not UTF-8 put over every place of every block.
+pub fn bad_utf8(random: &mut Random) -> Vec<Case> {
+    let count = random.below(5);
+    let mut plan = Plan::small_red(random, count);
+    if random.once_in(4) {
+        plan = Plan::t140(random);
+        let length = random.below(60);
+        plan.primary = random.text(length);
+    }
+    let ends = plan.older.iter().map(|older| older.1.len());
+    let lengths: Vec<usize> = ends.chain([plan.primary.len()]).collect();
+    let packet = plan.bytes();
+    let mut cases = vec![];
+    let mut start = plan.blocks();
+    for length in lengths {
+        for place in 0..length {
+            let bad = random.pick(&BAD);
+            let mut wrong = packet.clone();
+            let fits = bad.len().min(length - place);
+            wrong[start + place..start + place + fits].copy_from_slice(&bad[..fits]);
+            let case = match bad {
+                [0xfe | 0xff] => Case::refused(random, wrong, 21),
+                _ => Case::open(random, wrong),
+            };
+            cases.push(case);
+        }
+        start += length;
+    }
+    // A block that ends in a bad part, good blocks about it.
+    for block in 0..=plan.older.len() {
+        let mut wrong = plan.clone();
+        let text = match wrong.older.get_mut(block) {
+            Some(older) => &mut older.1,
+            None => &mut wrong.primary,
+        };
+        text.extend(random.pick(&BAD));
+        cases.push(Case::refused(random, wrong.bytes(), 21));
+    }
+    cases
+}
+
+/// Letters cut over the end of a block, so that only the joined text is good.
+pub fn split_letters(random: &mut Random) -> Vec<Case> {
+    let count = random.within(1, 4);
+    let mut plan = Plan::small_red(random, count);
+    if random.once_in(4) {
+        let count = random.within(1, 9);
+        plan.pad(random, count);
+    }
+    let mut cases = vec![];
+    for letter in ["é", "€", "😀", "\u{10ffff}", "\u{800}", "\u{d7ff}"] {
+        for cut in 1..letter.len() {
+            for block in 0..count {
+                let mut split = plan.clone();
+                let (head, tail) = letter.as_bytes().split_at(cut);
+                split.older[block].1.extend(head);
+                let next = match split.older.get_mut(block + 1) {
+                    Some(older) => &mut older.1,
+                    None => &mut split.primary,
+                };
+                next.splice(0..0, tail.iter().copied());
+                cases.push(Case::refused(random, split.bytes(), 21));
+            }
+        }
+    }
+    cases
+}

@@ -1,0 +1,219 @@
+//! A second reader of RTP text packets (RFC 4103), to hold the proved one
+//! against. It was written from the scope paper and the RFCs alone.
+#![forbid(unsafe_code)]
+
+pub mod paper;
+pub mod refusal;
+mod utf8;
+
+pub use utf8::text;
+
+/// The most older blocks a packet may carry.
+pub const MOST_OLDER: usize = 4;
+
+const HEADER: usize = 12;
+const LONGEST: usize = 1472;
+
+/// An older block of a RED packet, as a place in the packet.
+#[derive(Clone, Copy, Debug, Default, PartialEq, Eq)]
+pub struct Older {
+    /// The timestamp offset.
+    pub offset: u16,
+    pub start: u16,
+    pub length: u16,
+}
+
+/// An accepted packet.
+#[derive(Clone, Copy, Debug, PartialEq, Eq)]
+pub struct Packet<'a> {
+    bytes: &'a [u8],
+    pub marker: bool,
+    pub sequence: u16,
+    pub timestamp: u32,
+    pub source: u32,
+    older: [Older; MOST_OLDER],
+    count: u8,
+    /// Where the primary starts.
+    pub start: u16,
+    /// Where the primary ends, before any padding.
+    pub end: u16,
+}
+
+impl<'a> Packet<'a> {
+    /// The older blocks, oldest first.
+    #[inline]
+    pub fn older(&self) -> &[Older] {
+        &self.older[..usize::from(self.count)]
+    }
+
+    /// The bytes of one of this packet's older blocks.
+    #[inline]
+    pub fn block(&self, older: &Older) -> &'a [u8] {
+        let start = usize::from(older.start);
+        &self.bytes[start..start + usize::from(older.length)]
+    }
+
+    #[inline]
+    pub fn primary(&self) -> &'a [u8] {
+        &self.bytes[usize::from(self.start)..usize::from(self.end)]
+    }
+
+    /// The packet as the 19 numbers of the proved library's answer.
+    pub fn numbers(&self) -> [u64; 19] {
+        let mut numbers = [0; 19];
+        numbers[0] = u64::from(self.marker);
+        numbers[1] = u64::from(self.sequence);
+        numbers[2] = u64::from(self.timestamp);
+        numbers[3] = u64::from(self.source);
+        numbers[4] = u64::from(self.count);
+        numbers[5] = u64::from(self.start);
+        numbers[6] = u64::from(self.end);
+        for (older, numbers) in self.older().iter().zip(numbers[7..].chunks_exact_mut(3)) {
+            numbers[0] = u64::from(older.offset);
+            numbers[1] = u64::from(older.start);
+            numbers[2] = u64::from(older.length);
+        }
+        numbers
+    }
+}
+
+/// Reads one packet, or gives the number of its refusal. With `expected`,
+/// only packets of that source are accepted.
+pub fn read(expected: Option<u32>, t140: u8, red: u8, packet: &[u8]) -> Result<Packet<'_>, u8> {
+    let dynamic = 96..=127;
+    if !dynamic.contains(&t140) || !dynamic.contains(&red) || t140 == red {
+        return Err(refusal::SETTINGS);
+    }
+    let Some(header) = packet.first_chunk::<HEADER>() else {
+        return Err(refusal::SHORT);
+    };
+    if packet.len() > LONGEST {
+        return Err(refusal::LONG);
+    }
+    if header[0] >> 6 != 2 {
+        return Err(refusal::VERSION);
+    }
+    let start = payload_start(packet)?;
+    let end = payload_end(packet, start)?;
+    let payload_type = header[1] & 0x7f;
+    if payload_type != t140 && payload_type != red {
+        return Err(refusal::PAYLOAD_TYPE);
+    }
+    let source = u32::from_be_bytes([header[8], header[9], header[10], header[11]]);
+    if expected.is_some_and(|expected| expected != source) {
+        return Err(refusal::SOURCE);
+    }
+    let mut read = Packet {
+        bytes: packet,
+        marker: header[1] >> 7 == 1,
+        sequence: u16::from_be_bytes([header[2], header[3]]),
+        timestamp: u32::from_be_bytes([header[4], header[5], header[6], header[7]]),
+        source,
+        older: [Older::default(); MOST_OLDER],
+        count: 0,
+        start: start as u16,
+        end: end as u16,
+    };
+    if payload_type == red {
+        read.block_headers(t140)?;
+        read.place_older()?;
+    }
+    for older in read.older() {
+        well_formed(read.block(older))?;
+    }
+    well_formed(read.primary())?;
+    Ok(read)
+}
+
+/// Where the payload starts, past the source list and the extension.
+#[inline]
+fn payload_start(packet: &[u8]) -> Result<usize, u8> {
+    let sources = usize::from(packet[0] & 0x0f);
+    let mut start = HEADER + 4 * sources;
+    if packet[0] & 0x10 != 0 {
+        let Some(count) = packet.get(start + 2..start + 4) else {
+            return Err(refusal::HEADER_END);
+        };
+        start += 4 + 4 * usize::from(u16::from_be_bytes([count[0], count[1]]));
+    }
+    if start > packet.len() {
+        return Err(refusal::HEADER_END);
+    }
+    Ok(start)
+}
+
+/// Where the payload ends, before any padding.
+#[inline]
+fn payload_end(packet: &[u8], start: usize) -> Result<usize, u8> {
+    if packet[0] & 0x20 == 0 {
+        return Ok(packet.len());
+    }
+    let Some(&count) = packet[start..].last() else {
+        return Err(refusal::PADDING);
+    };
+    let count = usize::from(count);
+    if count == 0 || count > packet.len() - start {
+        return Err(refusal::PADDING);
+    }
+    Ok(packet.len() - count)
+}
+
+#[inline]
+fn well_formed(block: &[u8]) -> Result<(), u8> {
+    match std::str::from_utf8(block) {
+        Ok(_) => Ok(()),
+        Err(_) => Err(refusal::UTF8),
+    }
+}
+
+impl Packet<'_> {
+    /// Reads the RED block headers (RFC 2198) and moves `start` past them;
+    /// from there to `end` is what is left of the payload.
+    #[inline]
+    fn block_headers(&mut self, t140: u8) -> Result<(), u8> {
+        loop {
+            let left = &self.bytes[usize::from(self.start)..usize::from(self.end)];
+            let Some(&first) = left.first() else {
+                return Err(refusal::BLOCK_HEADERS_END);
+            };
+            if first & 0x80 == 0 {
+                if first != t140 {
+                    return Err(refusal::BLOCK_TYPE);
+                }
+                self.start += 1;
+                return Ok(());
+            }
+            let place = usize::from(self.count);
+            if place == MOST_OLDER {
+                return Err(refusal::FIFTH_OLDER);
+            }
+            let Some(&header) = left.first_chunk::<4>() else {
+                return Err(refusal::BLOCK_HEADERS_END);
+            };
+            if first & 0x7f != t140 {
+                return Err(refusal::BLOCK_TYPE);
+            }
+            let header = u32::from_be_bytes(header);
+            self.older[place] = Older {
+                offset: (header >> 10 & 0x3fff) as u16,
+                start: 0,
+                length: (header & 0x3ff) as u16,
+            };
+            self.count += 1;
+            self.start += 4;
+        }
+    }
+
+    /// Gives each older block its place and moves `start` past them all.
+    #[inline]
+    fn place_older(&mut self) -> Result<(), u8> {
+        for older in &mut self.older[..usize::from(self.count)] {
+            older.start = self.start;
+            self.start += older.length;
+        }
+        if self.start > self.end {
+            return Err(refusal::BLOCKS_END);
+        }
+        Ok(())
+    }
+}

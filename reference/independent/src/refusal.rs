@@ -1,0 +1,31 @@
+//! The numbers with which a reader refuses.
+
+/// Payload types outside 96..127, or equal.
+pub const SETTINGS: u8 = 3;
+/// Packet under 12 bytes.
+pub const SHORT: u8 = 10;
+/// Packet over 1,472 bytes.
+pub const LONG: u8 = 11;
+/// Version is not 2.
+pub const VERSION: u8 = 12;
+/// Source list or extension passes the end.
+pub const HEADER_END: u8 = 13;
+/// Padding count 0, above the payload, or no payload to hold it.
+pub const PADDING: u8 = 14;
+/// Payload type is neither T140 nor RED.
+pub const PAYLOAD_TYPE: u8 = 15;
+/// Source differs from the expected one.
+pub const SOURCE: u8 = 16;
+/// Block headers pass the end.
+pub const BLOCK_HEADERS_END: u8 = 17;
+/// A fifth older block.
+pub const FIFTH_OLDER: u8 = 18;
+/// A block's type is not T140.
+pub const BLOCK_TYPE: u8 = 19;
+/// Older blocks' lengths pass the end.
+pub const BLOCKS_END: u8 = 20;
+/// A block is not UTF-8.
+pub const UTF8: u8 = 21;
+
+/// Every number a reader can give.
+pub const ALL: [u8; 13] = [3, 10, 11, 12, 13, 14, 15, 16, 17, 18, 19, 20, 21];
