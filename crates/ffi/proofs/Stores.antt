@@ -9,7 +9,8 @@ use lib.ListN.{length, getD, set, take, drop}
 use lib.Seq.{sets, sets-eq, take-suc, length-take-le}
 use Rattle.packet.specs.declared.Older.{Older}
 use Rattle.packet.specs.Places.{none}
-use Rattle.ffi.specs.Answers.{over, blockNumbers}
+use Rattle.packet.specs.Arrays.{over}
+use Rattle.ffi.specs.Answers.{blockNumbers}
 
 pub sets-append : (xs ys l : List ℕ) (i : ℕ) → sets (sets l i xs) (i + length xs) ys ≡ sets l i (xs ++ ys)
 sets-append [] ys l i = ap (λ (k : ℕ). sets l k ys) (add-zero i)

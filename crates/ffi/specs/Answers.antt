@@ -1,21 +1,18 @@
 -- What the exported calls answer, and what they put into the numbers lent to them.
 use Prim.Native.Nat.{ℕ, _+_, _*_}
-use mathlib.Core.List.{List, [], _∷_, _++_}
+use mathlib.Core.List.{List, [], _∷_}
 use mathlib.Core.Bool.{Bool, true, false, cond}
 use lib.Dec.{ltb, eqb}
-use lib.ListN.{length, drop}
+use lib.ListN.{length}
 use Rattle.packet.specs.declared.Expected.{Expected}
 use Rattle.packet.specs.declared.Expected.the-variants.{Any, Only}
 use Rattle.packet.specs.declared.Older.{Older}
 use Rattle.packet.specs.declared.Packet.{Packet}
 use Rattle.packet.specs.declared.Text.{Text}
 use Rattle.packet.specs.declared.Text.the-variants.{Characters, Stops}
+use Rattle.packet.specs.Arrays.{over}
 use Rattle.packet.specs.Limits.{level}
 use Rattle.packet.specs.Places.{readOf}
-
--- x in the place of as many numbers at the front
-abbrev pub over : List ℕ → List ℕ → List ℕ
-over x l = x ++ drop (length x) l
 
 abbrev pub bit : Bool → ℕ
 bit true = 1

@@ -12,7 +12,8 @@ use Rattle.packet.specs.declared.Expected.{Expected}
 use Rattle.packet.specs.declared.redundancy.Head.{Head}
 use Rattle.packet.specs.Header.{payloadType, payload}
 use Rattle.packet.specs.Redundancy.{Heads, heads, bad, headOf, header, headers, total, areText}
-use Rattle.packet.specs.Reading.{Content, Read, holds, refused, Check, inOrder, headerChecks, headsOf, content, blockChecks, blocksRead, reading}
+use Rattle.packet.specs.Checks.{Check}
+use Rattle.packet.specs.Reading.{Content, Read, holds, refused, inOrder, headerChecks, headsOf, content, blockChecks, blocksRead, reading}
 use Rattle.packet.proofs.Tests.{by-test}
 
 abbrev pub NoneApplies : List Check → Type 0

@@ -18,7 +18,8 @@ use Rattle.packet.specs.declared.Packet.{Packet}
 use Rattle.packet.specs.Limits.{longest, level}
 use Rattle.packet.specs.Header.{headerEnd, payloadEnd, payload, sourceOf}
 use Rattle.packet.specs.Redundancy.{Block, total, olderOf, primaryOf, blocksOf, joined, allText}
-use Rattle.packet.specs.Reading.{Content, Read, holds, Check, inOrder, headerChecks, headsOf, content, blocksRead, reading}
+use Rattle.packet.specs.Checks.{Check}
+use Rattle.packet.specs.Reading.{Content, Read, holds, inOrder, headerChecks, headsOf, content, blocksRead, reading}
 use Rattle.packet.specs.Places.{none, placesFrom, size, primaryAt, placed, startOf, runOf, blockOf}
 use Rattle.packet.proofs.Slices.{drop-slice}
 use Rattle.packet.proofs.Payload.{payload-inside}
@@ -123,7 +124,7 @@ reach-older : (older : List Block) (primary : List ℕ) → reach (blocksOf olde
 reach-older [] primary = refl
 reach-older (b ∷ bs) primary = omega (arith, reach-older bs primary, length-append (b .bytes) (joined (take (length bs) (blocksOf bs primary))))
 
-blocks-length : (older : List Block) (primary : List ℕ) → length (blocksOf older primary) ≡ suc (length older)
+pub blocks-length : (older : List Block) (primary : List ℕ) → length (blocksOf older primary) ≡ suc (length older)
 blocks-length [] primary = refl
 blocks-length (b ∷ bs) primary = ap suc (blocks-length bs primary)
 
@@ -138,7 +139,7 @@ module _ (k : Packet) (i : ℕ) where
   start-primary : i ≡ k .count → startOf k i ≡ k .primary
   start-primary e = rw (le-ltb i (k .count) (omega arith), eq-eqb i (k .count) e)
 
-  start-end : k .count < i → startOf k i ≡ k .end
+  pub start-end : k .count < i → startOf k i ≡ k .end
   start-end h = rw (le-ltb i (k .count) (omega arith), ne-eqb i (k .count) (λ e. omega arith))
 
 reach-mono : (bs : List (List ℕ)) (i j : ℕ) → i ≤ j → reach bs i ≤ reach bs j

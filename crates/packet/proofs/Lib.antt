@@ -6,6 +6,7 @@ pub mod Rows
 pub mod Letters
 pub mod Table
 pub mod WellFormed
+pub mod TextJoin
 pub mod Payload
 pub mod Heads
 pub mod Parts
@@ -16,4 +17,3 @@ pub mod Accepted
 pub mod Runs
 pub mod Laws
 pub mod ReadBack
-pub mod LineTests

@@ -1,4 +1,5 @@
 pub mod Arrays
+pub mod Checks
 pub mod Limits
 pub mod Refusal
 pub mod Utf8

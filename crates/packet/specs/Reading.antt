@@ -6,6 +6,7 @@ use lib.Dec.{ltb, eqb}
 use lib.ListN.{length}
 use Rattle.packet.specs.declared.Expected.{Expected}
 use Rattle.packet.specs.declared.redundancy.Head.{Head}
+use Rattle.packet.specs.Checks.{Check, _gives_, checked}
 use Rattle.packet.specs.Limits.{shortest, longest}
 use Rattle.packet.specs.Header.{version, headerEnd, paddingBad, payloadType, payload, typesBad, otherType, otherSource, markerOf, sequenceOf, timestampOf, sourceOf}
 use Rattle.packet.specs.Redundancy.{Heads, heads, bad, headers, total, Block, olderOf, primaryOf, areText}
@@ -22,19 +23,8 @@ pub data Read : Type 0 where
   holds : Content → Read
   refused : ℕ → Read
 
--- a check, and the number of its refusal
-pub record Check : Type 0 where
-  pub applies : Bool
-  pub number : ℕ
-
-infixl 68 _gives_
-abbrev pub _gives_ : Bool → ℕ → Check
-b gives n = record { applies = b; number = n }
-
--- the first check that applies decides
 abbrev pub inOrder : List Check → Read → Read
-inOrder [] passed = passed
-inOrder (c ∷ cs) passed = cond (c .applies) (refused (c .number)) (inOrder cs passed)
+inOrder cs passed = checked refused cs passed
 
 abbrev pub headerChecks : Expected → ℕ → ℕ → List ℕ → List Check
 headerChecks expected t140 red p =

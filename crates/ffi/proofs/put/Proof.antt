@@ -7,7 +7,8 @@ use lib.Seq.{sets, length-sets}
 use borrow.Author.Needs.{needs}
 use denote.Ref.{now}
 use Rattle.packet.specs.Limits.{level}
-use Rattle.ffi.specs.Answers.{over, blockNumbers}
+use Rattle.packet.specs.Arrays.{over}
+use Rattle.ffi.specs.Answers.{blockNumbers}
 use Rattle.ffi.proofs.Stores.{sets-append, sets-over, numbers-length}
 use Rattle.ffi.proofs.put.Statement.{statement}
 use Rattle.ffi.proofs.put.Tie as tie

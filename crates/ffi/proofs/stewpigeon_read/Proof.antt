@@ -5,7 +5,8 @@ use borrow.Author.Needs.{needs}
 use denote.Ref.{now}
 use Rattle.packet.specs.declared.Expected.{Expected}
 use Rattle.packet.specs.Places.{Numbered, readOf}
-use Rattle.ffi.specs.Answers.{over, numbers, answerLength, expectedOf}
+use Rattle.packet.specs.Arrays.{over}
+use Rattle.ffi.specs.Answers.{numbers, answerLength, expectedOf}
 use Rattle.ffi.proofs.stewpigeon_read.Statement.{statement}
 use Rattle.ffi.proofs.stewpigeon_read.Tie as tie
 

@@ -1,0 +1,9 @@
+pub mod Entries
+pub mod Runs
+pub mod Examples
+pub mod Counts
+pub mod Wrap
+pub mod Ranges
+pub mod Arrivals
+pub mod Delivered
+pub mod Edges

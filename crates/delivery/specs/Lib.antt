@@ -1,0 +1,5 @@
+pub mod Numbers
+pub mod Record
+pub mod Sending
+pub mod Claim
+pub mod Run

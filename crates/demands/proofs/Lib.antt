@@ -1,0 +1,2 @@
+pub mod AnySender
+pub mod LineTests

@@ -1,0 +1,1 @@
+// A crate of theorems: the buyer's demands, over the definitions that the contracts cite.

@@ -1,0 +1,82 @@
+// The sender of an RTP text line (RFC 4103, section 5): text waits in a room and leaves in packets that repeat the last blocks.
+use packet::Outcome;
+use packet::Packet;
+use packet::Refusal;
+
+// What a sender is opened with: the number of repeats, the buffering time in ms, the two payload types, the first sequence
+// number, the first timestamp and the source.
+pub struct Settings {
+    pub level: usize,
+    pub buffering: u64,
+    pub t140: u8,
+    pub red: u8,
+    pub sequence: u16,
+    pub timestamp: u32,
+    pub source: u32,
+}
+
+impl Settings {
+    // The usual buffering time, in ms.
+    pub const BUFFERING: u64 = 300;
+
+    pub const LONGEST_BUFFERING: u64 = 500;
+}
+
+// Text and its time: of the waiting room, when its first byte was offered; of a block, when it was sent.
+pub struct Block {
+    pub bytes: [u8; Sender::ROOM],
+    pub len: usize,
+    pub at: u64,
+}
+
+// Whether a packet was sent, when the last one was, when the last one with text was, and the next sequence number.
+pub struct Progress {
+    pub sent: bool,
+    pub last: u64,
+    pub last_text: u64,
+    pub next: u16,
+}
+
+// A sender: the latest accepted clock, the waiting room, and the last blocks sent, newest first.
+pub struct Sender {
+    pub settings: Settings,
+    pub clock: u64,
+    pub waiting: Block,
+    pub blocks: [Block; Sender::LEVEL],
+    pub count: usize,
+    pub progress: Progress,
+}
+
+impl Sender {
+    // The highest number of repeats.
+    pub const LEVEL: usize = Packet::LEVEL;
+    // The bytes that the waiting room holds.
+    pub const ROOM: usize = 160;
+    // The age in ms up to which a block is repeated.
+    pub const OLDEST: u64 = 16383;
+}
+
+// The outcome of an opening, and the sender; all zeros where it is refused.
+pub struct Opened {
+    pub outcome: Outcome,
+    pub sender: Sender,
+}
+
+// The outcome of an offer, and the sender afterwards.
+pub struct Offered {
+    pub outcome: Outcome,
+    pub sender: Sender,
+}
+
+// The clock call's answer; Sent holds the packet's length.
+pub enum Answer {
+    Refused(Refusal),
+    Quiet,
+    Sent(usize),
+}
+
+// The clock call's answer, and the sender afterwards.
+pub struct Clocked {
+    pub answer: Answer,
+    pub sender: Sender,
+}
