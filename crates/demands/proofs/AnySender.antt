@@ -2,6 +2,7 @@
 use Prim.Native.Nat.{ℕ}
 use mathlib.Core.Path.{_≡_, _∙_, refl, ap, sym}
 use mathlib.Core.Bool.{Bool, true, false, cond}
+use mathlib.Core.List.{List, map}
 use native.Mathlib.Omega.{arith}
 use Rattle.receiver.specs.declared.Receiver.{Receiver}
 use Rattle.packet.specs.Header.{typesBad}
@@ -10,7 +11,9 @@ use Rattle.delivery.specs.Record as core
 use Rattle.delivery.specs.Sending.{sent}
 use Rattle.receiver.specs.Opening.{Opening, openingOf, freshReceiver, zeroReceiver}
 use Rattle.receiver.specs.Record.{recordOf, acceptedOf}
-use Rattle.demands.specs.AnySender.{AnySender, TextIsBlocks}
+use Rattle.delivery.specs.Claim.{Near, expected}
+use Rattle.delivery.specs.Run.{Rules}
+use Rattle.demands.specs.AnySender.{KeepsRules, AnySender}
 use Rattle.delivery.proofs.Runs.{senderOf}
 use Rattle.delivery.proofs.Delivered.{delivered}
 use Rattle.receiver.proofs.Text.{text-is-blocks}
@@ -26,8 +29,11 @@ opened-fresh t140 red = go (typesBad t140 red)
     go true e = absurd (omega arith)
     go false e = refl
 
-pub any-sender : AnySender
-any-sender t140 red o rules packet keeps given ks e near =
+recorded : (t140 red : ℕ) → openingOf t140 red .number ≡ 0
+    → (rules : Rules) (packet : ℕ → List ℕ) → KeepsRules t140 red rules packet
+    → (given : List (List ℕ)) (ks : List ℕ) → acceptedOf (openingOf t140 red .receiver) given ≡ map packet ks → Near ks
+    → recordOf (openingOf t140 red .receiver) given ≡ expected (senderOf rules) ks
+recorded t140 red o rules packet keeps given ks e near =
     let S = senderOf rules in
     let r = freshReceiver t140 red in
     let f : openingOf t140 red .receiver ≡ r = opened-fresh t140 red o in
@@ -38,5 +44,5 @@ any-sender t140 red o rules packet keeps given ks e near =
     ∙ ap (core.recordFrom core.fresh) (same-packets t140 red S packet reads given r refl refl ks (sym (ap (λ (x : Receiver). acceptedOf x given) f) ∙ e))
     ∙ delivered S ks near
 
-pub text-handed-out : TextIsBlocks
-text-handed-out = text-is-blocks
+pub any-sender : AnySender
+any-sender = record { recorded = recorded; text = text-is-blocks }

@@ -28,15 +28,12 @@ pub record KeepsRules (t140 red : ℕ) (rules : Rules) (packet : ℕ → List �
   pub small : rules .level ≤ level
   pub reads : (k : ℕ) (c : Content) → reading level Any t140 red (packet k) ≡ holds c → IsPacket rules k c
 
--- whatever list of packets is given to the receiver of an accepted opening, refused ones included: where the accepted ones are
--- copies of the sender's packets ks, each near the newest accepted before it, the record is the expected one
-abbrev pub AnySender : Type 0
-AnySender =
-    (t140 red : ℕ) → openingOf t140 red .number ≡ 0
-    → (rules : Rules) (packet : ℕ → List ℕ) → KeepsRules t140 red rules packet
-    → (given : List (List ℕ)) (ks : List ℕ) → acceptedOf (openingOf t140 red .receiver) given ≡ map packet ks → Near ks
-    → recordOf (openingOf t140 red .receiver) given ≡ expected (senderOf rules) ks
-
--- the bytes of the blocks given, joined, are the text handed out, at every step
-abbrev pub TextIsBlocks : Type 0
-TextIsBlocks = (r : Receiver) (p : List ℕ) → textGiven p (stepOf r p .answer) ≡ joined (blocksGiven r p (stepOf r p .answer))
+pub record AnySender : Type 0 where
+  -- whatever list of packets is given to the receiver of an accepted opening, refused ones included: where the accepted ones
+  -- are copies of the sender's packets ks, each near the newest accepted before it, the record is the expected one
+  pub recorded : (t140 red : ℕ) → openingOf t140 red .number ≡ 0
+      → (rules : Rules) (packet : ℕ → List ℕ) → KeepsRules t140 red rules packet
+      → (given : List (List ℕ)) (ks : List ℕ) → acceptedOf (openingOf t140 red .receiver) given ≡ map packet ks → Near ks
+      → recordOf (openingOf t140 red .receiver) given ≡ expected (senderOf rules) ks
+  -- at every step the bytes of the blocks given, joined, are the text handed out
+  pub text : (r : Receiver) (p : List ℕ) → textGiven p (stepOf r p .answer) ≡ joined (blocksGiven r p (stepOf r p .answer))

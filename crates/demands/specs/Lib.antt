@@ -1,1 +1,5 @@
 pub mod AnySender
+pub mod Sending
+pub mod Demand1
+pub mod Demand2
+pub mod Demand3

@@ -81,7 +81,7 @@ two-bytes : (x : ℕ) → x / 256 * 256 + x % 256 ≡ x
 two-bytes x = omega arith
 
 -- payload types that pass check 3
-types-small : (t140 red : ℕ) → typesBad t140 red ≡ false → (t140 < 128) × (red < 128) × (t140 ≡ red → ⊥)
+pub types-small : (t140 red : ℕ) → typesBad t140 red ≡ false → (t140 < 128) × (red < 128) × (t140 ≡ red → ⊥)
 types-small t140 red e =
     let a = ltb t140 96 in
     let b = ltb 127 t140 in

@@ -19,7 +19,7 @@ both : (s t : Bool) → (s && t) ≡ true → (s ≡ true) × (t ≡ true)
 both true t e = (refl, e)
 both false t e = never cc
 
-bounds : (r : Range) (b : ℕ) → within r b ≡ true → (r .low ≤ b) × (b ≤ r .high)
+pub bounds : (r : Range) (b : ℕ) → within r b ≡ true → (r .low ≤ b) × (b ≤ r .high)
 bounds r b e = let p = both (leb (r .low) b) (leb b (r .high)) e in (leb-true _ _ (p .0), leb-true _ _ (p .1))
 
 -- each row begins above the rows before it

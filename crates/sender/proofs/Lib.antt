@@ -1,2 +1,12 @@
 pub mod Tables
 pub mod CaseTests
+pub mod Shapes
+pub mod Kept
+pub mod Every
+pub mod Good
+pub mod Passed
+pub mod Sizes
+pub mod Carried
+pub mod ReadsBack
+pub mod TextBytes
+pub mod PacketBytes

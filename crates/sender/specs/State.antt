@@ -11,6 +11,7 @@ use Rattle.sender.specs.declared.Progress.{Progress}
 use Rattle.sender.specs.declared.Sender.{Sender}
 use Rattle.packet.specs.Arrays.{filled}
 use Rattle.packet.specs.Limits.{level}
+use Rattle.delivery.specs.Numbers.{wrapped}
 use Rattle.sender.specs.Limits.{roomSize}
 
 -- a block's text
@@ -45,7 +46,7 @@ senderOf settings clock waiting kept progress = record {
 
 -- nothing offered and nothing sent: "Clock values are 64-bit ms from the opening"
 abbrev pub fresh : Settings → Sender
-fresh s = senderOf s 0 emptyBlock [] (record { sent = false; last = 0; «last_text» = 0; next = s .sequence })
+fresh s = senderOf s 0 emptyBlock [] (record { sent = false; last = 0; «last_text» = 0; next = wrapped (s .sequence) })
 
 abbrev pub zeroSettings : Settings
 zeroSettings = record { level = 0; buffering = 0; t140 = 0; red = 0; sequence = 0; timestamp = 0; source = 0 }

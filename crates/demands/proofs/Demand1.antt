@@ -1,0 +1,131 @@
+-- Demand 1.
+use Prim.Native.Nat.{ℕ, suc}
+use mathlib.Core.Path.{_≡_, refl, ap}
+use mathlib.Core.List.{List, [], _∷_}
+use mathlib.Core.Bool.{Bool, true, false, cond, not}
+use native.Mathlib.Omega.{arith}
+use lib.Dec.{eqb}
+use Rattle.receiver.specs.declared.Receiver.{Receiver}
+use Rattle.sender.specs.declared.Sender.{Sender}
+use Rattle.sender.specs.declared.Settings.{Settings}
+use Rattle.packet.specs.Limits.{level}
+use Rattle.packet.specs.Header.{typesBad}
+use Rattle.packet.specs.Checks.{Check, checked}
+use Rattle.packet.specs.Reading.{Content, Read, holds, refused, reading}
+use Rattle.delivery.specs.Numbers.{Course, forward, late, courseOf, distance}
+use Rattle.receiver.specs.Opening as receiver
+use Rattle.receiver.specs.Opening.{Opening, freshReceiver, zeroReceiver}
+use Rattle.receiver.specs.Step.{refuses, sourceExpected, stepRead, firstStep, stepBy, stepOf}
+use Rattle.sender.specs.Answers as answers
+use Rattle.sender.specs.Answers.{Numbered, ClockResult}
+use Rattle.sender.specs.Settings.{settingsNumber}
+use Rattle.sender.specs.State.{zeroSender, fresh}
+use Rattle.sender.specs.Opening as sender
+use Rattle.sender.specs.Offering.{offerChecks, offerOf, senderWith, offerRefused}
+use Rattle.sender.specs.Clocking.{clockChecks, senderAt, clockOf, clockRefused}
+use Rattle.demands.specs.Demand1.{Demand1}
+use Rattle.sender.proofs.Shapes as shapes
+use Rattle.sender.proofs.Shapes.{Offer, Clock, offer-shape, clock-shape}
+
+receiver-opening : (t140 red n : ℕ) → receiver.openingOf t140 red .number ≡ suc n → receiver.openingOf t140 red .receiver ≡ zeroReceiver
+receiver-opening t140 red n = go (typesBad t140 red)
+  where
+    go : (b : Bool)
+        → cond {A = Opening} b (record { number = 3; receiver = zeroReceiver }) (record { number = 0; receiver = freshReceiver t140 red }) .number ≡ suc n
+        → cond {A = Opening} b (record { number = 3; receiver = zeroReceiver }) (record { number = 0; receiver = freshReceiver t140 red }) .receiver ≡ zeroReceiver
+    go true e = refl
+    go false e = absurd (omega arith)
+
+sender-opening : (x : Settings) (n : ℕ) → sender.openingOf x .number ≡ suc n → sender.openingOf x .sender ≡ zeroSender
+unfolding sender.openingOf
+sender-opening x n = go (eqb (settingsNumber x) 0)
+  where
+    go : (b : Bool)
+        → cond {A = Numbered} (not b) (sender.openingRefused (settingsNumber x)) (record { number = 0; sender = fresh x }) .number ≡ suc n
+        → cond {A = Numbered} (not b) (sender.openingRefused (settingsNumber x)) (record { number = 0; sender = fresh x }) .sender ≡ zeroSender
+    go true e = absurd (omega arith)
+    go false e = refl
+
+-- an answer to an accepted packet is no refusal
+accepted-not : (r : Receiver) (p : List ℕ) (c : Content) (n : ℕ) → stepRead r p (holds c) .answer ≡ refuses n → ⊥
+accepted-not r p c n = by (r .«has_source») (courseOf (distance (c .sequence) (r .expected)))
+  where
+    by : (h : Bool) (v : Course) → cond h (stepBy v r p c (distance (c .sequence) (r .expected))) (firstStep r p c) .answer ≡ refuses n → ⊥
+    by true forward e = let z : _≡_ {A = ℕ} 0 1 = cc in omega arith
+    by true late e = let z : _≡_ {A = ℕ} 0 1 = cc in omega arith
+    by false v e = let z : _≡_ {A = ℕ} 0 1 = cc in omega arith
+
+step-is : (r : Receiver) (p : List ℕ) (n : ℕ) (x : Read) → stepRead r p x .answer ≡ refuses n → x ≡ refused n
+step-is r p n (refused k) e = let q : k ≡ n = cc in ap refused q
+step-is r p n (holds c) e = absurd (accepted-not r p c n e)
+
+step-refused : (r : Receiver) (p : List ℕ) (n : ℕ) → stepOf r p .answer ≡ refuses n → stepOf r p .receiver ≡ r
+unfolding stepOf
+step-refused r p n e = ap (λ (x : Read). stepRead r p x .receiver) (step-is r p n (reading level (sourceExpected r) (r .t140) (r .red) p) e)
+
+offer-number : (s : Sender) (t : ℕ) (x : List ℕ) → offerOf s t x .number ≡ checked (λ n. n) (offerChecks s t x) 0
+unfolding offerOf
+offer-number s t x = go (offerChecks s t x)
+  where
+    go : (cs : List Check) → checked (offerRefused s) cs (record { number = 0; sender = senderWith s t x }) .number ≡ checked (λ n. n) cs 0
+    go [] = refl
+    go (c ∷ cs) = by (c .applies) (go cs)
+      where
+        by : (b : Bool) → checked (offerRefused s) cs (record { number = 0; sender = senderWith s t x }) .number ≡ checked (λ n. n) cs 0
+            → cond b (offerRefused s (c .number)) (checked (offerRefused s) cs (record { number = 0; sender = senderWith s t x })) .number ≡ cond b (c .number) (checked (λ n. n) cs 0)
+        by true e = refl
+        by false e = e
+
+offer-refused : (s : Sender) (t : ℕ) (x : List ℕ) (n : ℕ) → offerOf s t x .number ≡ suc n → offerOf s t x .sender ≡ s
+offer-refused s t x n = go (offerOf s t x) (offer-shape s t x)
+  where
+    go : (r : Numbered) → Offer s t x r → r .number ≡ suc n → r .sender ≡ s
+    go r (shapes.refused k) e = refl
+    go r (shapes.joined a b c d) e = absurd (omega arith)
+
+clock-number : (s : Sender) (t : ℕ) (p : List ℕ) (n : ℕ) → checked (λ k. k) (clockChecks s t) 0 ≡ suc n → clockOf s t p .answer ≡ answers.refused (suc n)
+unfolding clockOf
+clock-number s t p n = go (clockChecks s t) _
+  where
+    go : (cs : List Check) (x : ClockResult) → checked (λ k. k) cs 0 ≡ suc n → checked (clockRefused s p) cs x .answer ≡ answers.refused (suc n)
+    go [] x e = absurd (omega arith)
+    go (c ∷ cs) x e = by (c .applies) (go cs x) e
+      where
+        by : (b : Bool) → (checked (λ k. k) cs 0 ≡ suc n → checked (clockRefused s p) cs x .answer ≡ answers.refused (suc n))
+            → cond b (c .number) (checked (λ k. k) cs 0) ≡ suc n
+            → cond b (clockRefused s p (c .number)) (checked (clockRefused s p) cs x) .answer ≡ answers.refused (suc n)
+        by true f e = ap answers.refused e
+        by false f e = f e
+
+clock-refused : (s : Sender) (t : ℕ) (p : List ℕ) (n : ℕ) → clockOf s t p .answer ≡ answers.refused n → (clockOf s t p .sender ≡ s) × (clockOf s t p .lent ≡ p)
+clock-refused s t p n = go (clockOf s t p) (clock-shape s t p)
+  where
+    go : (r : ClockResult) → Clock s t p r → r .answer ≡ answers.refused n → (r .sender ≡ s) × (r .lent ≡ p)
+    go r (shapes.refused k) e = (refl, refl)
+    go r (shapes.quiet a b) e = absurd (let z : _≡_ {A = ℕ} 0 1 = cc in omega arith)
+    go r (shapes.sent a b c d) e = absurd (let z : _≡_ {A = ℕ} 0 1 = cc in omega arith)
+
+clock-quiet : (s : Sender) (t : ℕ) (p : List ℕ) → clockOf s t p .answer ≡ answers.quiet → (clockOf s t p .sender ≡ senderAt s t) × (clockOf s t p .lent ≡ p)
+clock-quiet s t p = go (clockOf s t p) (clock-shape s t p)
+  where
+    go : (r : ClockResult) → Clock s t p r → r .answer ≡ answers.quiet → (r .sender ≡ senderAt s t) × (r .lent ≡ p)
+    go r (shapes.refused k) e = absurd (let z : _≡_ {A = ℕ} 0 1 = cc in omega arith)
+    go r (shapes.quiet a b) e = (refl, refl)
+    go r (shapes.sent a b c d) e = absurd (let z : _≡_ {A = ℕ} 0 1 = cc in omega arith)
+
+pub demand-1 : Demand1
+unfolding stepOf reading offerOf clockOf settingsNumber
+demand-1 = record {
+  receiver-opening = receiver-opening;
+  sender-opening = sender-opening;
+  step-number = λ r p n. (step-is r p n (reading level (sourceExpected r) (r .t140) (r .red) p), λ e. ap (λ (x : Read). stepRead r p x .answer) e);
+  step-refused = step-refused;
+  offer-number = offer-number;
+  offer-refused = offer-refused;
+  clock-number = clock-number;
+  clock-refused = clock-refused;
+  clock-quiet = clock-quiet;
+  zero-receiver = λ p. refl;
+  zero-offer = λ t x. refl;
+  zero-clock = λ t p. refl;
+}

@@ -1,0 +1,40 @@
+-- Demand 1: any bytes, any clock value and any settings get an answer; a bad call gets the number of the table, the sender or
+-- receiver comes back unchanged, and no lent byte is altered.
+use Prim.Native.Nat.{ℕ, suc}
+use mathlib.Core.Path.{_≡_}
+use mathlib.Core.List.{List}
+use mathlib.Core.Logic.{_↔_}
+use Rattle.receiver.specs.declared.Receiver.{Receiver}
+use Rattle.sender.specs.declared.Sender.{Sender}
+use Rattle.sender.specs.declared.Settings.{Settings}
+use Rattle.packet.specs.Limits.{level}
+use Rattle.packet.specs.Checks.{checked}
+use Rattle.packet.specs.Reading.{refused, reading}
+use Rattle.receiver.specs.Opening as receiver
+use Rattle.receiver.specs.Opening.{zeroReceiver}
+use Rattle.receiver.specs.Step.{refuses, sourceExpected, stepOf}
+use Rattle.sender.specs.Answers as answers
+use Rattle.sender.specs.State.{zeroSender}
+use Rattle.sender.specs.Opening as sender
+use Rattle.sender.specs.Offering.{offerChecks, offerOf}
+use Rattle.sender.specs.Clocking.{clockChecks, senderAt, clockOf}
+
+-- a number other than 0 is a refusal's
+pub record Demand1 : Type 0 where
+  -- a refused opening gives all zeros
+  pub receiver-opening : (t140 red n : ℕ) → receiver.openingOf t140 red .number ≡ suc n → receiver.openingOf t140 red .receiver ≡ zeroReceiver
+  pub sender-opening : (x : Settings) (n : ℕ) → sender.openingOf x .number ≡ suc n → sender.openingOf x .sender ≡ zeroSender
+  -- the step refuses what reading refuses, with its number, and then the receiver is as it came in
+  pub step-number : (r : Receiver) (p : List ℕ) (n : ℕ) → (stepOf r p .answer ≡ refuses n) ↔ (reading level (sourceExpected r) (r .t140) (r .red) p ≡ refused n)
+  pub step-refused : (r : Receiver) (p : List ℕ) (n : ℕ) → stepOf r p .answer ≡ refuses n → stepOf r p .receiver ≡ r
+  -- an offer's number is that of the first check that applies, and then the sender is as it came in
+  pub offer-number : (s : Sender) (t : ℕ) (x : List ℕ) → offerOf s t x .number ≡ checked (λ n. n) (offerChecks s t x) 0
+  pub offer-refused : (s : Sender) (t : ℕ) (x : List ℕ) (n : ℕ) → offerOf s t x .number ≡ suc n → offerOf s t x .sender ≡ s
+  -- so is the clock call's, and no lent byte is altered; a quiet call keeps the clock alone
+  pub clock-number : (s : Sender) (t : ℕ) (p : List ℕ) (n : ℕ) → checked (λ k. k) (clockChecks s t) 0 ≡ suc n → clockOf s t p .answer ≡ answers.refused (suc n)
+  pub clock-refused : (s : Sender) (t : ℕ) (p : List ℕ) (n : ℕ) → clockOf s t p .answer ≡ answers.refused n → (clockOf s t p .sender ≡ s) × (clockOf s t p .lent ≡ p)
+  pub clock-quiet : (s : Sender) (t : ℕ) (p : List ℕ) → clockOf s t p .answer ≡ answers.quiet → (clockOf s t p .sender ≡ senderAt s t) × (clockOf s t p .lent ≡ p)
+  -- a zero receiver answers 3 to every call, a zero sender 2
+  pub zero-receiver : (p : List ℕ) → stepOf zeroReceiver p .answer ≡ refuses 3
+  pub zero-offer : (t : ℕ) (x : List ℕ) → offerOf zeroSender t x .number ≡ 2
+  pub zero-clock : (t : ℕ) (p : List ℕ) → clockOf zeroSender t p .answer ≡ answers.refused 2

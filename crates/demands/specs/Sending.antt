@@ -1,0 +1,46 @@
+-- Lists of offers and clock calls on one sender, and what they write (01, "The lists of demand 3").
+use Prim.Native.Nat.{ℕ}
+use mathlib.Core.List.{List, [], _∷_, _++_}
+use lib.ListN.{take}
+use Rattle.sender.specs.declared.Sender.{Sender}
+use Rattle.packet.specs.Reading.{Content}
+use Rattle.sender.specs.Answers as answers
+use Rattle.sender.specs.Answers.{Answered}
+use Rattle.sender.specs.Offering.{offerOf}
+use Rattle.sender.specs.Packets.{contentOf}
+use Rattle.sender.specs.Clocking.{clockOf}
+
+-- at a clock: a text, or a clock call with a lent space
+pub data Call : Type 0 where
+  offer : ℕ → List ℕ → Call
+  clock : ℕ → List ℕ → Call
+
+-- a packet that was written: its bytes, the clock of its call, and what it is to be read as
+pub record Written : Type 0 where
+  pub packet : List ℕ
+  pub time : ℕ
+  pub content : Content
+
+-- the first n bytes of the lent space after a call that answered n
+abbrev pub writtenBy : Answered → List ℕ → ℕ → Content → List Written
+writtenBy (answers.refused n) lent t c = []
+writtenBy answers.quiet lent t c = []
+writtenBy (answers.sent n) lent t c = record { packet = take n lent; time = t; content = c } ∷ []
+
+abbrev pub writes : Sender → Call → List Written
+writes s (offer t x) = []
+writes s (clock t p) = writtenBy (clockOf s t p .answer) (clockOf s t p .lent) t (contentOf s t)
+
+abbrev pub after : Sender → Call → Sender
+after s (offer t x) = offerOf s t x .sender
+after s (clock t p) = clockOf s t p .sender
+
+-- each call gets the sender that the last call returned
+abbrev pub written : Sender → List Call → List Written
+written s [] = []
+written s (c ∷ cs) = writes s c ++ written (after s c) cs
+
+-- the sender that the list leaves
+abbrev pub finally : Sender → List Call → Sender
+finally s [] = s
+finally s (c ∷ cs) = finally (after s c) cs
