@@ -1,6 +1,6 @@
 -- Demand 1.
 use Prim.Native.Nat.{ℕ, suc}
-use mathlib.Core.Path.{_≡_, refl, ap}
+use mathlib.Core.Path.{_≡_, _∙_, refl, ap}
 use mathlib.Core.List.{List, [], _∷_}
 use mathlib.Core.Bool.{Bool, true, false, cond, not}
 use native.Mathlib.Omega.{arith}
@@ -24,6 +24,7 @@ use Rattle.sender.specs.Opening as sender
 use Rattle.sender.specs.Offering.{offerChecks, offerOf, senderWith, offerRefused}
 use Rattle.sender.specs.Clocking.{clockChecks, senderAt, clockOf, clockRefused}
 use Rattle.demands.specs.Demand1.{Demand1}
+use Rattle.demands.proofs.Passing.{clock-passed, not-due, due-short}
 use Rattle.sender.proofs.Shapes as shapes
 use Rattle.sender.proofs.Shapes.{Offer, Clock, offer-shape, clock-shape}
 
@@ -123,6 +124,8 @@ demand-1 = record {
   offer-number = offer-number;
   offer-refused = offer-refused;
   clock-number = clock-number;
+  clock-not-due = λ s t p e d. ap (λ (r : ClockResult). r .answer) (clock-passed s t p e ∙ not-due s t p d);
+  clock-space = λ s t p e d h. ap (λ (r : ClockResult). r .answer) (clock-passed s t p e ∙ due-short s t p d h);
   clock-refused = clock-refused;
   clock-quiet = clock-quiet;
   zero-receiver = λ p. refl;

@@ -3,10 +3,9 @@ use Prim.Native.Nat.{ℕ, _≤_}
 use mathlib.Core.Path.{_≡_, _∙_, refl, ap, sym, subst}
 use mathlib.Core.List.{List, [], _∷_, _++_}
 use mathlib.Core.Bool.{Bool, true, false, cond, not}
-use native.Mathlib.Omega.{arith}
-use lib.Dec.{ltb, eqb}
+use lib.Dec.{eqb}
 use lib.ListN.{length}
-use borrow.Author.Tests.{le-ltb, eqb-false}
+use borrow.Author.Tests.{eqb-false}
 use Rattle.packet.specs.declared.Expected.the-variants.{Any}
 use Rattle.sender.specs.declared.Sender.{Sender}
 use Rattle.sender.specs.declared.Settings.{Settings}
@@ -20,11 +19,12 @@ use Rattle.sender.specs.Settings.{settingsNumber}
 use Rattle.sender.specs.State.{fresh}
 use Rattle.sender.specs.Opening.{openingRefused, openingOf}
 use Rattle.sender.specs.Packets.{due, packetBytes}
-use Rattle.sender.specs.Clocking.{clockChecks, spaceChecks, clockRefused, clockSent, clockQuiet, clockOf}
+use Rattle.sender.specs.Clocking.{clockChecks, clockSent, clockOf}
 use Rattle.demands.specs.Sending.{Call, offer, clock, Written, writes, after, written}
 use Rattle.demands.specs.Demand2.{ReadBack, Demand2}
 use Rattle.sender.proofs.Good.{Good, fresh-good, offer-good, clock-good}
 use Rattle.sender.proofs.ReadsBack.{reads-back}
+use Rattle.demands.proofs.Passing.{clock-passed, due-sent}
 use Rattle.demands.proofs.Follow.{Move, still, moved, sends, move}
 
 -- an accepted opening gives a fresh sender
@@ -55,23 +55,6 @@ good-back x (c ∷ cs) s e g = go (after s c) (writes s c) (move s c) (good-back
           ∙ reads-back s t n g,
       f e h,
     )
-
--- behind the clock's checks
-abbrev pastClock : Sender → ℕ → List ℕ → ClockResult
-pastClock s t p = cond (due s t) (checked (clockRefused s p) (spaceChecks s t p) (clockSent s t p)) (clockQuiet s t p)
-
-due-sent : (s : Sender) (t : ℕ) (p : List ℕ) → due s t ≡ true → length (packetBytes s t) ≤ length p → pastClock s t p ≡ clockSent s t p
-due-sent s t p d h = rw (d, le-ltb (length p) (length (packetBytes s t)) h)
-
-clock-passed : (s : Sender) (t : ℕ) (p : List ℕ) → checked (λ n. n) (clockChecks s t) 0 ≡ 0 → clockOf s t p ≡ pastClock s t p
-unfolding clockOf
-clock-passed s t p e = go (settingsNumber (s .settings)) (eqb (settingsNumber (s .settings)) 0) refl (ltb t (s .clock)) (pastClock s t p) e
-  where
-    go : (n : ℕ) (a : Bool) → eqb n 0 ≡ a → (b : Bool) (x : ClockResult) → cond (not a) n (cond b 5 0) ≡ 0
-        → cond (not a) (clockRefused s p n) (cond b (clockRefused s p 5) x) ≡ x
-    go n false q b x e = absurd (eqb-false n 0 q e)
-    go n true q true x e = absurd (omega arith)
-    go n true q false x e = refl
 
 writes-when-due : (s : Sender) (t : ℕ) (p : List ℕ) → checked (λ n. n) (clockChecks s t) 0 ≡ 0 → due s t ≡ true → length (packetBytes s t) ≤ length p
     → (clockOf s t p .answer ≡ answers.sent (length (packetBytes s t))) × (clockOf s t p .lent ≡ over (packetBytes s t) p)

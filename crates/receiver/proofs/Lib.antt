@@ -1,3 +1,4 @@
 pub mod Blocks
 pub mod Core
 pub mod Text
+pub mod MarkTests
