@@ -17,3 +17,4 @@ pub mod Accepted
 pub mod Runs
 pub mod Laws
 pub mod ReadBack
+pub mod Names
