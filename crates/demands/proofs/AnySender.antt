@@ -16,7 +16,7 @@ use Rattle.delivery.specs.Run.{Rules}
 use Rattle.demands.specs.AnySender.{KeepsRules, AnySender}
 use Rattle.delivery.proofs.Runs.{senderOf}
 use Rattle.delivery.proofs.Delivered.{delivered}
-use Rattle.receiver.proofs.Text.{text-is-blocks}
+use Rattle.receiver.proofs.TextGiven.{text-is-blocks}
 use Rattle.receiver.proofs.Core.{packetOf, same-record, same-packets}
 
 -- an accepted opening gives a fresh receiver

@@ -1,6 +1,7 @@
 pub mod Cases
 pub mod Tests
 pub mod Slices
+pub mod Stores
 pub mod Filled
 pub mod Rows
 pub mod Letters
@@ -18,3 +19,4 @@ pub mod Runs
 pub mod Laws
 pub mod ReadBack
 pub mod Names
+pub mod Inverted

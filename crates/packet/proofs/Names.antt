@@ -1,5 +1,5 @@
 -- A refusal's number says which it is, so the promises by numbers fix the whole answer.
-use Prim.Native.Nat.{ℕ}
+use Prim.Native.Nat.{ℕ, _≤_}
 use mathlib.Core.Path.{_≡_, _∙_, refl, ap, sym}
 use mathlib.Core.Bool.{cond}
 use native.Mathlib.Omega.{arith}
@@ -58,35 +58,35 @@ named-number BlockType = refl
 named-number BlockLengths = refl
 named-number BlockText = refl
 
-pub number-positive : (r : Refusal) → number r ≡ 0 → ⊥
-number-positive Level e = omega arith
-number-positive Buffering e = omega arith
-number-positive PayloadTypes e = omega arith
-number-positive WaitingRoom e = omega arith
-number-positive Clock e = omega arith
-number-positive Text e = omega arith
-number-positive NoText e = omega arith
-number-positive Space e = omega arith
-number-positive Short e = omega arith
-number-positive Long e = omega arith
-number-positive Version e = omega arith
-number-positive Header e = omega arith
-number-positive Padding e = omega arith
-number-positive PayloadType e = omega arith
-number-positive Source e = omega arith
-number-positive BlockHeaders e = omega arith
-number-positive BlockCount e = omega arith
-number-positive BlockType e = omega arith
-number-positive BlockLengths e = omega arith
-number-positive BlockText e = omega arith
+pub number-positive : (r : Refusal) → 1 ≤ number r
+number-positive Level = omega arith
+number-positive Buffering = omega arith
+number-positive PayloadTypes = omega arith
+number-positive WaitingRoom = omega arith
+number-positive Clock = omega arith
+number-positive Text = omega arith
+number-positive NoText = omega arith
+number-positive Space = omega arith
+number-positive Short = omega arith
+number-positive Long = omega arith
+number-positive Version = omega arith
+number-positive Header = omega arith
+number-positive Padding = omega arith
+number-positive PayloadType = omega arith
+number-positive Source = omega arith
+number-positive BlockHeaders = omega arith
+number-positive BlockCount = omega arith
+number-positive BlockType = omega arith
+number-positive BlockLengths = omega arith
+number-positive BlockText = omega arith
 
 pub number-names : (a b : Refusal) → number a ≡ number b → a ≡ b
 number-names a b e = sym (named-number a) ∙ ap named e ∙ named-number b
 
 outcome-names : (a b : Outcome) → outcomeNumber a ≡ outcomeNumber b → a ≡ b
 outcome-names Accepted Accepted e = refl
-outcome-names Accepted (Refused r) e = absurd (number-positive r (sym e))
-outcome-names (Refused r) Accepted e = absurd (number-positive r e)
+outcome-names Accepted (Refused r) e = absurd (omega (arith, number-positive r))
+outcome-names (Refused r) Accepted e = absurd (omega (arith, number-positive r))
 outcome-names (Refused a) (Refused b) e = ap Refused (number-names a b e)
 
 -- two answers with one number and one packet are one answer

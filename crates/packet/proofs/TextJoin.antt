@@ -1,8 +1,8 @@
 -- Texts one behind the other are a text.
 use Prim.Native.Nat.{ℕ, suc}
 use mathlib.Core.Path.{_≡_, refl, ap, sym, subst}
-use mathlib.Core.List.{List, [], _∷_, _++_, append-assoc}
-use mathlib.Core.Bool.{true, false}
+use mathlib.Core.List.{List, _++_, append-assoc}
+use mathlib.Core.Bool.{true}
 use native.Mathlib.Omega.{arith}
 use Rattle.packet.specs.declared.Text.{Text}
 use Rattle.packet.specs.declared.Text.the-variants.{Characters, Stops}

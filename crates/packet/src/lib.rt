@@ -8,6 +8,7 @@ mod utf8;
 ghost use mathlib.Core.Path.{_≡_};
 ghost use lib.ListN.{getD};
 ghost use Rattle.packet.specs.Refusal.{number};
+ghost use Rattle.packet.specs.Header.{typesBad};
 ghost use Rattle.packet.specs.Utf8.{textOf};
 ghost use Rattle.packet.specs.Places.{numbered, readOf, none, startOf, runOf, blockOf};
 use utf8::Walked;
@@ -188,6 +189,13 @@ pub fn text_of(bytes: &[u8]) -> Text
         return Text::Stops(at);
     }
     Text::Characters(characters)
+}
+
+// Whether payload types are refused: outside 96 to 127, or equal.
+pub fn types_bad(t140: u8, red: u8) -> bool
+    ensures { λ r. ⌜ r ≡ typesBad t140 red ⌝ }
+{
+    header::types_bad(t140, red)
 }
 
 // Reads a packet of the source that is expected.

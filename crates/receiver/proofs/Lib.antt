@@ -1,4 +1,7 @@
 pub mod Blocks
+pub mod Sign
+pub mod Steps
 pub mod Core
-pub mod Text
+pub mod TextGiven
 pub mod MarkTests
+pub mod MarkStores

@@ -1,6 +1,9 @@
 pub mod Tables
 pub mod CaseTests
 pub mod Shapes
+pub mod Calls
+pub mod Written
+pub mod Joined
 pub mod Kept
 pub mod Every
 pub mod Good

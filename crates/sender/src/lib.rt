@@ -1,4 +1,13 @@
 // The sender of an RTP text line (RFC 4103, section 5): text waits in a room and leaves in packets that repeat the last blocks.
+mod blocks;
+mod fill;
+mod offering;
+mod opening;
+
+ghost use mathlib.Core.Path.{_≡_};
+ghost use Rattle.sender.specs.Answers.{opened, offered};
+ghost use Rattle.sender.specs.Opening.{openingOf};
+ghost use Rattle.sender.specs.Offering.{offerOf};
 use packet::Outcome;
 use packet::Packet;
 use packet::Refusal;
@@ -54,6 +63,50 @@ impl Sender {
     pub const ROOM: usize = 160;
     // The age in ms up to which a block is repeated.
     pub const OLDEST: u64 = 16383;
+
+    // Opens a sender, at clock 0.
+    pub fn open(settings: Settings) -> Opened
+        ensures { λ r. ⌜ opened r ≡ openingOf settings ⌝ }
+    {
+        let outcome = opening::settings_outcome(settings);
+        match outcome {
+            Outcome::Accepted => {
+                let sender = opening::fresh(settings);
+                Opened { outcome, sender }
+            }
+            Outcome::Refused(_) => {
+                let sender = opening::zeros();
+                Opened { outcome, sender }
+            }
+        }
+    }
+
+    // Offers text, which joins what waits; where it is refused, the sender stays as it is.
+    pub fn offer(self, clock: u64, text: &[u8]) -> Offered
+        ensures { λ r. ⌜ offered r ≡ offerOf self clock (now (text .entry)) ⌝ }
+    {
+        let settings = self.settings;
+        let outcome = opening::settings_outcome(settings);
+        match outcome {
+            Outcome::Refused(refusal) => return offering::refused(self, refusal),
+            Outcome::Accepted => {}
+        }
+        let latest = self.clock;
+        if clock < latest {
+            return offering::refused(self, Refusal::Clock);
+        }
+        if text.len() == 0 {
+            return offering::refused(self, Refusal::NoText);
+        }
+        if !offering::is_text(text) {
+            return offering::refused(self, Refusal::Text);
+        }
+        let len = blocks::text_len(self.waiting);
+        if Sender::ROOM < len + text.len() {
+            return offering::refused(self, Refusal::WaitingRoom);
+        }
+        offering::accepted(self, clock, text)
+    }
 }
 
 // The outcome of an opening, and the sender; all zeros where it is refused.

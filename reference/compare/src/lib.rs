@@ -7,7 +7,8 @@ pub mod check;
 pub mod damage;
 pub mod kinds;
 pub mod plan;
-pub mod random;
 pub mod run;
 mod shapes;
 pub mod texts;
+
+pub use independent::random;

@@ -1,9 +1,16 @@
-//! A second reader of RTP text packets (RFC 4103), to hold the proved one
-//! against. It was written from the scope paper and the RFCs alone.
+//! A second reader, receiver and sender of RTP text packets (RFC 4103), to
+//! hold the proved ones against. They were written from the scope paper and
+//! the RFCs alone.
 #![forbid(unsafe_code)]
 
+pub mod channel;
+pub mod maker;
 pub mod paper;
+pub mod random;
+pub mod receiver;
+pub mod record;
 pub mod refusal;
+pub mod sender;
 mod utf8;
 
 pub use utf8::text;
@@ -80,10 +87,7 @@ impl<'a> Packet<'a> {
 /// Reads one packet, or gives the number of its refusal. With `expected`,
 /// only packets of that source are accepted.
 pub fn read(expected: Option<u32>, t140: u8, red: u8, packet: &[u8]) -> Result<Packet<'_>, u8> {
-    let dynamic = 96..=127;
-    if !dynamic.contains(&t140) || !dynamic.contains(&red) || t140 == red {
-        return Err(refusal::SETTINGS);
-    }
+    payload_types(t140, red)?;
     let Some(header) = packet.first_chunk::<HEADER>() else {
         return Err(refusal::SHORT);
     };
@@ -123,6 +127,16 @@ pub fn read(expected: Option<u32>, t140: u8, red: u8, packet: &[u8]) -> Result<P
     }
     well_formed(read.primary())?;
     Ok(read)
+}
+
+/// Both payload types are dynamic ones, and they differ.
+#[inline]
+fn payload_types(t140: u8, red: u8) -> Result<(), u8> {
+    let dynamic = 96..=127;
+    if !dynamic.contains(&t140) || !dynamic.contains(&red) || t140 == red {
+        return Err(refusal::SETTINGS);
+    }
+    Ok(())
 }
 
 /// Where the payload starts, past the source list and the extension.

@@ -1,7 +1,21 @@
-//! The numbers with which a reader refuses.
+//! The refusal numbers.
 
+/// Repeat level above 4.
+pub const LEVEL: u8 = 1;
+/// Buffering time 0 or above 500.
+pub const BUFFERING: u8 = 2;
 /// Payload types outside 96..127, or equal.
 pub const SETTINGS: u8 = 3;
+/// Offered text does not fit in the waiting room.
+pub const ROOM: u8 = 4;
+/// Clock below the latest accepted clock.
+pub const CLOCK: u8 = 5;
+/// Offered text is not UTF-8.
+pub const OFFERED_UTF8: u8 = 6;
+/// Offered text is empty.
+pub const EMPTY: u8 = 7;
+/// Lent packet space shorter than the packet due.
+pub const SPACE: u8 = 8;
 /// Packet under 12 bytes.
 pub const SHORT: u8 = 10;
 /// Packet over 1,472 bytes.

@@ -1,3 +1,4 @@
+use independent::receiver::{Answer, Receiver};
 use independent::{paper, read, refusal};
 
 #[test]
@@ -30,4 +31,38 @@ fn blocks_are_parts_of_the_packet() {
     let packet = read(None, 98, 100, &case.packet).unwrap();
     assert_eq!(packet.block(&packet.older()[0]), b"A");
     assert_eq!(packet.primary(), b"");
+}
+
+/// Every case of the paper, on a fresh receiver or, where it expects a
+/// source, on one that has heard it.
+#[test]
+fn every_case_on_a_receiver() {
+    for case in paper::cases() {
+        let mut receiver = match Receiver::open(case.t140, case.red) {
+            Ok(receiver) => receiver,
+            Err(number) => {
+                assert_eq!(case.result, Err(number), "{}", case.name);
+                continue;
+            }
+        };
+        if let Some(source) = case.expected {
+            let mut first = vec![0x80, 0x62, 0, 0, 0, 0, 0, 0];
+            first.extend(source.to_be_bytes());
+            receiver.step(&first);
+        }
+        let before = receiver;
+        match (receiver.step(&case.packet), case.numbers()) {
+            (Answer::Refused(number), expected) => {
+                assert_eq!(Err(number), expected, "{}", case.name);
+                assert_eq!(receiver, before, "{}", case.name);
+            }
+            (Answer::Late { .. }, _) => panic!("{}", case.name),
+            (Answer::Forward(answer), expected) => {
+                let sequence = expected.expect(case.name)[1] as u16;
+                let distance = before.expected().map_or(0, |next| sequence - next);
+                assert_eq!(answer.distance, i32::from(distance), "{}", case.name);
+                assert_eq!(receiver.expected(), Some(sequence + 1), "{}", case.name);
+            }
+        }
+    }
 }

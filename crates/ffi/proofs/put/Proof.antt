@@ -9,7 +9,8 @@ use denote.Ref.{now}
 use Rattle.packet.specs.Limits.{level}
 use Rattle.packet.specs.Arrays.{over}
 use Rattle.ffi.specs.Answers.{blockNumbers}
-use Rattle.ffi.proofs.Stores.{sets-append, sets-over, numbers-length}
+use Rattle.packet.proofs.Stores.{sets-append, sets-over}
+use Rattle.ffi.proofs.Stores.{numbers-length}
 use Rattle.ffi.proofs.put.Statement.{statement}
 use Rattle.ffi.proofs.put.Tie as tie
 

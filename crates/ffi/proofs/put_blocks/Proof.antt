@@ -10,7 +10,8 @@ use Rattle.packet.specs.declared.Older.{Older}
 use Rattle.packet.specs.Limits.{level}
 use Rattle.packet.specs.Places.{none}
 use Rattle.ffi.specs.Answers.{blockNumbers, answerLength}
-use Rattle.ffi.proofs.Stores.{three, more}
+use Rattle.packet.proofs.Stores.{three}
+use Rattle.ffi.proofs.Stores.{more}
 use Rattle.ffi.proofs.put_blocks.Statement.{statement}
 use Rattle.ffi.proofs.put_blocks.Tie as tie
 

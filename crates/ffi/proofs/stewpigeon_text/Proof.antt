@@ -3,7 +3,7 @@ use mathlib.Core.List.{[], _∷_}
 use borrow.Author.Tests.{lt-ltb, le-ltb}
 use borrow.Author.Needs.{needs}
 use denote.Ref.{now}
-use Rattle.ffi.proofs.Stores.{sets-over}
+use Rattle.packet.proofs.Stores.{sets-over}
 use Rattle.ffi.proofs.stewpigeon_text.Statement.{statement}
 use Rattle.ffi.proofs.stewpigeon_text.Tie as tie
 

@@ -1,0 +1,255 @@
+//! The receiver's line tests, its refusals and its distances.
+
+use independent::paper;
+use independent::receiver::{Answer, Forward, Receiver};
+
+const SOURCE: [u8; 4] = [0x11, 0x22, 0x33, 0x44];
+
+fn open() -> Receiver {
+    Receiver::open(98, 100).unwrap()
+}
+
+/// A RED packet; every offset is 0.
+fn red(sequence: u16, older: &[&[u8]], primary: &[u8]) -> Vec<u8> {
+    let mut packet = vec![0x80, 0x64];
+    packet.extend(sequence.to_be_bytes());
+    packet.extend([0; 4]);
+    packet.extend(SOURCE);
+    for block in older {
+        packet.extend([0xe2, 0, 0, block.len() as u8]);
+    }
+    packet.push(0x62);
+    packet.extend(older.concat());
+    packet.extend(primary);
+    packet
+}
+
+/// A receiver that expects this number next.
+fn expecting(number: u16) -> Receiver {
+    let mut receiver = open();
+    receiver.step(&red(number.wrapping_sub(1), &[], b""));
+    assert_eq!(receiver.expected(), Some(number));
+    receiver
+}
+
+fn forward(answer: Answer) -> Forward {
+    match answer {
+        Answer::Forward(forward) => forward,
+        answer => panic!("{answer:?}"),
+    }
+}
+
+fn case(name: &str) -> Vec<u8> {
+    let mut cases = paper::cases().into_iter();
+    cases.find(|case| case.name == name).unwrap().packet
+}
+
+#[test]
+fn t1() {
+    assert_eq!(open().step(&[]), Answer::Refused(10));
+}
+
+#[test]
+fn t2() {
+    let packet = [0x80, 0x62, 0, 0, 0, 0, 0, 0, 0, 0, 0, 0];
+    let mut receiver = open();
+    let answer = forward(receiver.step(&packet));
+    assert_eq!((answer.text, answer.loss, answer.distance), (&[][..], 0, 0));
+    assert_eq!(answer.blocks, [b""]);
+    assert_eq!(receiver.expected(), Some(1));
+    assert_eq!(receiver.source(), Some(0));
+}
+
+#[test]
+fn t3() {
+    let packet = case("T3");
+    let mut receiver = open();
+    let answer = forward(receiver.step(&packet));
+    assert_eq!(answer.text, b"A");
+    assert_eq!(answer.blocks, [&b"A"[..], b""]);
+    assert_eq!((answer.loss, answer.distance, answer.older), (0, 0, 1));
+    assert_eq!(receiver.expected(), Some(6));
+    let read = independent::read(None, 98, 100, &packet).unwrap();
+    assert_eq!(read.older()[0].offset, 300);
+}
+
+#[test]
+fn t4() {
+    let packet = case("T3");
+    let mut receiver = open();
+    forward(receiver.step(&packet));
+    let before = receiver;
+    assert_eq!(receiver.step(&packet), Answer::Late { distance: -1 });
+    assert_eq!(receiver, before);
+}
+
+#[test]
+fn t5() {
+    let packet = red(9, &[b"g", b"h"], b"i");
+    let mut receiver = expecting(6);
+    let answer = forward(receiver.step(&packet));
+    assert_eq!((answer.loss, answer.distance, answer.older), (1, 3, 2));
+    assert_eq!(answer.text, b"ghi");
+    assert_eq!(receiver.expected(), Some(10));
+}
+
+#[test]
+fn t6() {
+    let packet = red(0, &[b"a"], b"b");
+    let mut receiver = expecting(65_535);
+    let answer = forward(receiver.step(&packet));
+    assert_eq!(
+        (answer.loss, answer.distance, answer.text),
+        (0, 1, &b"ab"[..])
+    );
+    assert_eq!(receiver.expected(), Some(1));
+}
+
+#[test]
+fn t7() {
+    let packet = red(32_773, &[], b"x");
+    let mut receiver = expecting(6);
+    let answer = forward(receiver.step(&packet));
+    assert_eq!((answer.loss, answer.distance), (32_767, 32_767));
+    assert_eq!(receiver.expected(), Some(32_774));
+}
+
+#[test]
+fn t8() {
+    let packet = red(32_774, &[], b"x");
+    let mut receiver = expecting(6);
+    assert_eq!(receiver.step(&packet), Answer::Late { distance: -32_768 });
+    assert_eq!(receiver.expected(), Some(6));
+}
+
+const PLACES: [&str; 3] = ["in T140", "in a primary", "in an older block"];
+
+#[test]
+fn t9() {
+    for place in PLACES {
+        let mut receiver = open();
+        let packet = case(&format!("T9 {place}"));
+        assert_eq!(receiver.step(&packet), Answer::Refused(21));
+        assert_eq!(receiver, open());
+    }
+}
+
+#[test]
+fn t10() {
+    for place in PLACES {
+        let packet = case(&format!("T10 {place}"));
+        let answer = forward(open().step(&packet));
+        assert_eq!(answer.text, [0xf4, 0x8f, 0xbf, 0xbf]);
+    }
+}
+
+#[test]
+fn run_only_1472_and_1473_bytes() {
+    let packet = case("1,472 bytes of T140");
+    assert_eq!(forward(open().step(&packet)).text, [b'a'; 1460]);
+    let packet = case("1,472 bytes of RED");
+    assert_eq!(forward(open().step(&packet)).text, [b'a'; 1459]);
+    assert_eq!(open().step(&case("1,473 bytes")), Answer::Refused(11));
+}
+
+#[test]
+fn run_only_padding_equal_to_the_payload() {
+    let packet = case("padding equal to the payload in T140");
+    assert_eq!(forward(open().step(&packet)).text, b"");
+    let packet = case("padding equal to the payload in RED");
+    assert_eq!(open().step(&packet), Answer::Refused(17));
+}
+
+#[test]
+fn run_only_bad_letters() {
+    for letter in ["C0 80", "F4 90 80 80"] {
+        for place in PLACES {
+            let packet = case(&format!("{letter} {place}"));
+            assert_eq!(
+                open().step(&packet),
+                Answer::Refused(21),
+                "{letter} {place}"
+            );
+        }
+    }
+}
+
+#[test]
+fn openings_and_the_zero_receiver() {
+    for (t140, red) in [(95, 100), (128, 100), (98, 95), (98, 128), (98, 98), (0, 0)] {
+        assert_eq!(Receiver::open(t140, red), Err(3));
+    }
+    for (t140, red) in [(96, 127), (127, 96)] {
+        assert!(Receiver::open(t140, red).is_ok());
+    }
+    let mut zero = Receiver::zero();
+    for packet in [case("T1"), case("T3"), case("1,473 bytes")] {
+        assert_eq!(zero.step(&packet), Answer::Refused(3));
+        assert_eq!(zero, Receiver::zero());
+    }
+}
+
+/// Another source is refused, near and far, and a late packet with it too.
+#[test]
+fn source_of_the_first_accepted_packet() {
+    let mut receiver = expecting(6);
+    let before = receiver;
+    for sequence in [5, 6, 7, 40_000] {
+        let mut packet = red(sequence, &[], b"x");
+        packet[11] ^= 1;
+        assert_eq!(receiver.step(&packet), Answer::Refused(16));
+        assert_eq!(receiver, before);
+    }
+}
+
+/// Every number and every count of older blocks, counted up from the
+/// expected one.
+#[test]
+fn every_distance() {
+    let older: [&[u8]; 4] = [b"1", b"", "€".as_bytes(), b"4"];
+    for expected in [0, 1, 6, 32_767, 32_768, 65_534, 65_535] {
+        let start = expecting(expected);
+        let mut sequence = expected;
+        for steps in 0..65_536 {
+            for r in 0..=4 {
+                if r > 0 && steps > 8 && steps < 32_760 && steps % 97 != 0 {
+                    continue;
+                }
+                let mut receiver = start;
+                let packet = red(sequence, &older[..r], b"p");
+                let answer = receiver.step(&packet);
+                if steps >= 32_768 {
+                    let distance = steps as i32 - 65_536;
+                    assert_eq!(answer, Answer::Late { distance });
+                    assert_eq!(receiver, start);
+                    continue;
+                }
+                let given = if steps > r { r } else { steps };
+                let mut blocks = older[r - given..r].to_vec();
+                blocks.push(b"p");
+                let text = blocks.concat();
+                let whole = Forward {
+                    loss: (steps - given) as u16,
+                    distance: steps as i32,
+                    older: r,
+                    blocks,
+                    text: &text,
+                };
+                assert_eq!(forward(answer), whole);
+                assert_eq!(receiver.expected(), Some(sequence.wrapping_add(1)));
+            }
+            sequence = sequence.wrapping_add(1);
+        }
+    }
+}
+
+#[test]
+fn text_and_blocks_are_parts_of_the_packet() {
+    let packet = red(8, &[b"abc", b"", b"de"], b"f");
+    let answer = forward(expecting(6).step(&packet));
+    assert_eq!(answer.blocks, [&b""[..], b"de", b"f"]);
+    let start = packet.len() - 3;
+    assert!(std::ptr::eq(answer.text, &packet[start..]));
+    assert!(std::ptr::eq(answer.blocks[1], &packet[start..start + 2]));
+    assert!(std::ptr::eq(answer.blocks[2], &packet[start + 2..]));
+}

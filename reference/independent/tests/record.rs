@@ -1,0 +1,238 @@
+//! Demand 3: the record of a line held against the sender's blocks.
+
+use independent::channel::{self, Call, Delivery, Line, State};
+use independent::random::Random;
+use independent::receiver::{Answer, Receiver};
+use independent::record::{add, expected, in_window, run, Entry, Sent};
+use independent::sender::Settings;
+use independent::{maker, read};
+
+const LISTS: u64 = 2000;
+
+/// How often the lists met what they are meant to meet.
+#[derive(Debug, Default)]
+struct Met {
+    forward: usize,
+    late: usize,
+    refused: usize,
+    other_source: usize,
+    marks: usize,
+    repeated: usize,
+    unwanted: usize,
+    empty: usize,
+    aged: usize,
+    wrapped: usize,
+    nothing: usize,
+}
+
+impl Met {
+    fn check(&self, level: u8) {
+        let mut counts = vec![
+            self.forward,
+            self.late,
+            self.refused,
+            self.other_source,
+            self.marks,
+            self.wrapped,
+            self.nothing,
+        ];
+        if level > 0 {
+            counts.extend([self.repeated, self.unwanted, self.aged, self.empty]);
+        }
+        assert!(counts.iter().all(|&count| count > 10), "{self:?}");
+    }
+}
+
+/// Gives the deliveries to a fresh receiver and checks its record.
+fn receive(settings: &Settings, line: &Line, deliveries: &[Delivery], met: &mut Met) {
+    let level = usize::from(settings.level);
+    let mut receiver = Receiver::open(settings.t140, settings.red).unwrap();
+    let mut record = vec![];
+    let mut accepted: Vec<usize> = vec![];
+    let mut newest = None;
+    for delivery in deliveries {
+        let before = receiver;
+        let k = delivery.number;
+        let source = receiver.source();
+        let good = read(source, settings.t140, settings.red, &delivery.packet).is_ok();
+        assert!(!good || delivery.state != State::Broken);
+        let answer = receiver.step(&delivery.packet);
+        assert_eq!(good, !matches!(answer, Answer::Refused(_)));
+        let after = record.len();
+        add(&mut record, &answer);
+        match &answer {
+            Answer::Refused(number) => {
+                assert_eq!(receiver, before);
+                met.refused += 1;
+                met.other_source += usize::from(*number == 16);
+                continue;
+            }
+            Answer::Late { distance } => {
+                assert_eq!(receiver, before);
+                assert_eq!(*distance as i64, k as i64 - newest.unwrap() as i64 - 1);
+                met.late += 1;
+            }
+            Answer::Forward(forward) => {
+                let ahead = newest.map_or(0, |newest| k - newest - 1);
+                assert_eq!(forward.distance as usize, ahead);
+                assert_eq!(forward.text, forward.blocks.concat());
+                assert_eq!(forward.older, run(&line.sent, level, k));
+                assert_eq!(
+                    record.len() - after,
+                    usize::from(forward.loss) + forward.blocks.len()
+                );
+                met.forward += 1;
+                met.marks += usize::from(forward.loss);
+                met.repeated += forward.blocks.len() - 1;
+                met.unwanted += forward.older + 1 - forward.blocks.len();
+                let empty = forward.blocks.iter().filter(|block| block.is_empty());
+                met.empty += empty.count();
+                met.aged += usize::from(forward.older < level.min(k));
+                let now = receiver.expected();
+                met.wrapped += usize::from(now < before.expected());
+            }
+        }
+        assert!(in_window(newest, k));
+        newest = newest.max(Some(k));
+        accepted.push(k);
+    }
+    met.nothing += usize::from(accepted.is_empty());
+    assert_eq!(record, expected(&line.sent, level, &accepted));
+}
+
+fn random_lines(level: u8, line: fn(&mut Random, &Settings) -> Line) {
+    let mut met = Met::default();
+    for seed in 0..LISTS {
+        let mut random = Random::new(seed << 8 | u64::from(level));
+        let settings = channel::settings(&mut random, level);
+        let line = line(&mut random, &settings);
+        let deliveries = channel::deliveries(&mut random, &line.packets);
+        receive(&settings, &line, &deliveries, &mut met);
+    }
+    met.check(level);
+}
+
+fn ours(random: &mut Random, settings: &Settings) -> Line {
+    let count = random.pick(&[10, 100, 200]);
+    let calls = channel::calls(random, settings.buffering, count);
+    channel::send(*settings, &calls)
+}
+
+fn another_makers(random: &mut Random, settings: &Settings) -> Line {
+    let count = random.pick(&[0, 1, 5, 20, 100]);
+    maker::line(random, settings, count)
+}
+
+#[test]
+fn random_lines_of_our_sender() {
+    for level in 0..=4 {
+        random_lines(level, ours);
+    }
+}
+
+#[test]
+fn random_lines_of_another_makers_sender() {
+    for level in 0..=4 {
+        random_lines(level, another_makers);
+    }
+}
+
+/// A line of 150,000 packets, more than two rounds of the numbers, heard in
+/// jumps up to the window's ends.
+#[test]
+fn long_lines_to_the_ends_of_the_window() {
+    for level in 0..=4 {
+        let mut random = Random::new(u64::from(level));
+        let settings = Settings {
+            buffering: 1,
+            ..channel::settings(&mut random, level)
+        };
+        let mut calls = vec![];
+        for clock in 0..150_000 {
+            let text = vec![b'a' + (clock % 26) as u8];
+            calls.push(Call::Offer { clock, text });
+            let space = 900;
+            calls.push(Call::Clock { clock, space });
+        }
+        let line = channel::send(settings, &calls);
+        assert_eq!(line.packets.len(), 150_000);
+        for _ in 0..20 {
+            let deliveries = jumps(&mut random, &line);
+            receive(&settings, &line, &deliveries, &mut Met::default());
+        }
+    }
+}
+
+fn jumps(random: &mut Random, line: &Line) -> Vec<Delivery> {
+    let mut newest = random.below(50_000);
+    let mut deliveries = vec![];
+    let mut deliver = |number: usize| {
+        deliveries.push(Delivery {
+            number,
+            packet: line.packets[number].clone(),
+            state: State::Whole,
+        })
+    };
+    while newest < line.packets.len() {
+        deliver(newest);
+        let far = random.below(32_768);
+        for back in [0, 1, far, 32_766, 32_767] {
+            if random.once_in(3) && back <= newest {
+                deliver(newest - back);
+            }
+        }
+        newest += random.pick(&[1, 2, 5, 6, far, 32_767, 32_768]).max(1);
+    }
+    deliveries
+}
+
+/// One past either end of the window the record is no longer promised: the
+/// receiver takes ahead for late, and late for ahead.
+#[test]
+fn past_the_ends_of_the_window() {
+    assert!(in_window(Some(40_000), 72_768) && !in_window(Some(40_000), 72_769));
+    assert!(in_window(Some(40_000), 7_233) && !in_window(Some(40_000), 7_232));
+    let packet = |k: u16| {
+        let mut packet = vec![0x80, 98];
+        packet.extend(k.to_be_bytes());
+        packet.extend([0; 8]);
+        packet
+    };
+    let mut receiver = Receiver::open(98, 100).unwrap();
+    receiver.step(&packet(40_000));
+    let ahead = (72_769_u32 % 65_536) as u16;
+    let late = Answer::Late { distance: -32_768 };
+    assert_eq!(receiver.step(&packet(ahead)), late);
+    let behind = packet(7_232);
+    assert!(matches!(receiver.step(&behind), Answer::Forward(_)));
+}
+
+fn sent(blocks: &[(u64, &str)]) -> Vec<Sent> {
+    let sent = blocks.iter().map(|&(clock, block)| Sent {
+        clock,
+        block: block.as_bytes().to_vec(),
+    });
+    sent.collect()
+}
+
+/// Records spelled out by hand, to hold `expected` itself.
+#[test]
+fn records_by_hand() {
+    let line = sent(&[(0, "do "), (300, "not"), (600, ""), (900, " sell")]);
+    let text = |text: &str| Entry::Block(text.into());
+    let all = [text("do "), text("not"), text(""), text(" sell")];
+    let gap = [text("do "), Entry::Mark, text(""), text(" sell")];
+    assert_eq!(expected(&line, 1, &[]), []);
+    assert_eq!(expected(&line, 2, &[0, 3]), all);
+    assert_eq!(expected(&line, 1, &[0, 3]), gap);
+    assert_eq!(expected(&line, 1, &[0, 3, 1, 2, 3]), gap);
+    assert_eq!(expected(&line, 1, &[1, 0, 1, 2, 3]), all);
+    assert_eq!(expected(&line, 1, &[2, 0, 1]), all[1..3]);
+    assert_eq!(expected(&line, 0, &[2]), all[2..3]);
+    let line = sent(&[(0, "a"), (1, "b"), (16_384, "c")]);
+    assert_eq!(expected(&line, 2, &[2]), [text("b"), text("c")]);
+    let gap = [text("a"), Entry::Mark, text("c")];
+    assert_eq!(expected(&line, 0, &[0, 2]), gap);
+    // A block that holds U+FFFD is no mark.
+    assert_ne!(text("\u{fffd}"), Entry::Mark);
+}
