@@ -1,13 +1,12 @@
 // The functions that C and Rust callers link.
+mod receiving;
+
 ghost use mathlib.Core.Path.{_≡_};
-ghost use mathlib.Core.Bool.{Bool, cond};
 ghost use Prim.Native.Nat.{_≤_};
-ghost use lib.Dec.{ltb};
 ghost use lib.ListN.{length};
 ghost use lib.Seq.{sets};
 ghost use Rattle.packet.specs.Limits.{level};
 ghost use Rattle.packet.specs.Arrays.{over};
-ghost use Rattle.packet.specs.Places.{readOf};
 ghost use Rattle.packet.specs.Refusal.{outcomeNumber};
 ghost use Rattle.packet.specs.Utf8.{textOf};
 ghost use Rattle.ffi.specs.Answers.{bit, blockNumbers, numbers, answerLength, expectedOf, readNumber, readAnswer, textNumber, textAnswer};

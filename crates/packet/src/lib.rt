@@ -10,6 +10,7 @@ ghost use lib.ListN.{getD};
 ghost use Rattle.packet.specs.Refusal.{number};
 ghost use Rattle.packet.specs.Header.{typesBad};
 ghost use Rattle.packet.specs.Utf8.{textOf};
+ghost use Rattle.packet.specs.Places as Places;
 ghost use Rattle.packet.specs.Places.{numbered, readOf, none, startOf, runOf, blockOf};
 use utf8::Walked;
 
@@ -131,6 +132,19 @@ fn older_start(older: [Older; Packet::LEVEL], k: usize) -> usize
     0
 }
 
+// The bytes from one place up to another; nothing where these do not lie within the bytes.
+pub fn part(bytes: &[u8], from: usize, to: usize) -> &[u8]
+    ensures { λ r. ⌜ now r ≡ Places.part from to (now (bytes .entry)) ⌝ }
+{
+    if to < from {
+        return &bytes[..0];
+    }
+    if bytes.len() < to {
+        return &bytes[..0];
+    }
+    &bytes[from..to]
+}
+
 // The blocks from the one at `from` up to the one at `to`, which is not among them, as a part of the packet's bytes;
 // nothing where their places do not lie within the bytes.
 pub fn block_run(bytes: &[u8], packet: Packet, from: usize, to: usize) -> &[u8]
@@ -138,13 +152,7 @@ pub fn block_run(bytes: &[u8], packet: Packet, from: usize, to: usize) -> &[u8]
 {
     let start = packet.start_of(from);
     let end = packet.start_of(to);
-    if end < start {
-        return &bytes[..0];
-    }
-    if bytes.len() < end {
-        return &bytes[..0];
-    }
-    &bytes[start..end]
+    part(bytes, start, end)
 }
 
 // One block; nothing behind the primary.

@@ -5,3 +5,4 @@ pub mod Core
 pub mod TextGiven
 pub mod MarkTests
 pub mod MarkStores
+pub mod Advancing

@@ -4,3 +4,4 @@ pub mod Step
 pub mod Accepted
 pub mod Record
 pub mod Marks
+pub mod Handed

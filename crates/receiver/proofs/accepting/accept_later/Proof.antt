@@ -12,12 +12,12 @@ use Rattle.receiver.specs.Distance.{signed}
 use Rattle.receiver.specs.Step.{isLate}
 use Rattle.receiver.specs.Accepted.{followed}
 use Rattle.receiver.proofs.Sign.{negative-late, other-forward}
-use Rattle.receiver.proofs.Receiver.accept_later.Statement.{statement}
-use Rattle.receiver.proofs.Receiver.accept_later.Tie as tie
+use Rattle.receiver.proofs.accepting.accept_later.Statement.{statement}
+use Rattle.receiver.proofs.accepting.accept_later.Tie as tie
 
 -- the distance as the code holds it
 signed-is : (c : tie.After-signed)
-    → toZ w16 (ofZ w16 (c .signed .result)) ≡ signed (distance (c .before .before .args .packet .sequence) (c .before .before .args .self .expected))
+    → toZ w16 (ofZ w16 (c .signed .result)) ≡ signed (distance (c .before .before .args .packet .sequence) (c .before .before .args .receiver .expected))
 signed-is c =
     toZ-ofZ {w = w16} {z = c .signed .result} (record { sfits = c .signed .ok })
     ∙ c .signed .ensures
@@ -32,10 +32,10 @@ signed-requires c κs = search needs
 returns : tie.Need-returns
 returns c =
     let a = c .before .before .before .args in
-    let d = distance (a .packet .sequence) (a .self .expected) in
+    let d = distance (a .packet .sequence) (a .receiver .expected) in
     let z : toZ w16 (ofZ w16 (c .before .signed .result)) ≡ signed d = signed-is (c .before) in
     let v : courseOf d ≡ late = negative-late d (sym (ap (λ (x : ℤ). ltZ x (pos 0)) z) ∙ c .if1 .taken) in
-    rw v (ap (λ (x : ℤ). record { receiver = a .self; answer = isLate x }) z)
+    rw v (ap (λ (x : ℤ). record { receiver = a .receiver; answer = isLate x }) z)
 
 loss-of-requires : tie.Need-loss-of-requires
 loss-of-requires c κs = search needs
@@ -50,7 +50,7 @@ returns-2 : tie.Need-returns-2
 returns-2 c =
     let q = c .before .before .before .before in
     let a = q .before .before .args in
-    let d = distance (a .packet .sequence) (a .self .expected) in
+    let d = distance (a .packet .sequence) (a .receiver .expected) in
     let n = a .packet .count in
     let e : q .before .ahead .result ≡ d = q .before .ahead .ensures in
     let z : toZ w16 (ofZ w16 (q .signed .result)) ≡ signed d = signed-is q in
@@ -59,9 +59,9 @@ returns-2 c =
     let w : c .before .wanted-of .result ≡ wanted d n = c .before .wanted-of .ensures ∙ ap (λ (k : ℕ). wanted k n) e in
     rw v
     (c .follow .ensures
-    ∙ ap (λ (k : ℕ). followed (a .self) (a .packet) k (toZ w16 (ofZ w16 (q .signed .result))) (c .before .wanted-of .result)) l
-    ∙ ap (λ (x : ℤ). followed (a .self) (a .packet) (loss d n) x (c .before .wanted-of .result)) z
-    ∙ ap (followed (a .self) (a .packet) (loss d n) (signed d)) w)
+    ∙ ap (λ (k : ℕ). followed (a .receiver) (a .packet) k (toZ w16 (ofZ w16 (q .signed .result))) (c .before .wanted-of .result)) l
+    ∙ ap (λ (x : ℤ). followed (a .receiver) (a .packet) (loss d n) x (c .before .wanted-of .result)) z
+    ∙ ap (followed (a .receiver) (a .packet) (loss d n) (signed d)) w)
 
 pub accept-later-spec : {M : Type 1} → statement M
 accept-later-spec =

@@ -1,21 +1,21 @@
 use mathlib.Core.Path.{sym}
 use borrow.Author.Needs.{needs}
 use denote.Ref.{now}
 use Rattle.packet.proofs.PartOf.{part-crossed, part-past, part-mid}
-use Rattle.receiver.proofs.part.Statement.{statement}
-use Rattle.receiver.proofs.part.Tie as tie
+use Rattle.packet.proofs.part.Statement.{statement}
+use Rattle.packet.proofs.part.Tie as tie
 
 slice-aggregate-result : tie.Need-slice-aggregate-result
 slice-aggregate-result c = search needs
 
 returns : tie.Need-returns
-returns c = sym (part-crossed _ _ (now (c .before .before .args .packet)) (c .before .if1 .taken))
+returns c = sym (part-crossed _ _ (now (c .before .before .args .bytes)) (c .before .if1 .taken))
 
 slice-aggregate-result-2 : tie.Need-slice-aggregate-result-2
 slice-aggregate-result-2 c = search needs
 
 returns-2 : tie.Need-returns-2
-returns-2 c = sym (part-past _ _ (now (c .before .before .before .args .packet)) (c .before .before .if1 .left) (c .before .if2 .taken))
+returns-2 c = sym (part-past _ _ (now (c .before .before .before .args .bytes)) (c .before .before .if1 .left) (c .before .if2 .taken))
 
 part-result-start : tie.Need-part-result-start
 part-result-start c = search needs
@@ -24,7 +24,7 @@ part-result-end : tie.Need-part-result-end
 part-result-end c = search needs
 
 returns-3 : tie.Need-returns-3
-returns-3 c = sym (part-mid _ _ (now (c .before .before .before .args .packet)) (c .before .before .if1 .left) (c .before .if2 .left))
+returns-3 c = sym (part-mid _ _ (now (c .before .before .before .args .bytes)) (c .before .before .if1 .left) (c .before .if2 .left))
 
 pub part-spec : {M : Type 1} → statement M
 part-spec =

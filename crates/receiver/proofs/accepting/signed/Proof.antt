@@ -3,8 +3,8 @@ use mir.Syntax.{w16}
 use mir.Facts.{toZ-ofZ}
 use borrow.Author.Needs.{needs}
 use Rattle.receiver.proofs.Sign.{small-signed, large-signed, large-fits}
-use Rattle.receiver.proofs.signed.Statement.{statement}
-use Rattle.receiver.proofs.signed.Tie as tie
+use Rattle.receiver.proofs.accepting.signed.Statement.{statement}
+use Rattle.receiver.proofs.accepting.signed.Tie as tie
 
 cast-result : tie.Need-cast-result
 cast-result c = search needs

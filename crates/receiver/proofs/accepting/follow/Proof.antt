@@ -2,8 +2,8 @@ use native.Mathlib.Numerals.{add-one}
 use mir.Syntax.{w16}
 use mir.Facts.{toZ-ofZ}
 use borrow.Author.Needs.{needs}
-use Rattle.receiver.proofs.Receiver.follow.Statement.{statement}
-use Rattle.receiver.proofs.Receiver.follow.Tie as tie
+use Rattle.receiver.proofs.accepting.follow.Statement.{statement}
+use Rattle.receiver.proofs.accepting.follow.Tie as tie
 
 sub-first : tie.Need-sub-first
 sub-first c = search needs

@@ -8,8 +8,8 @@ use borrow.Author.Needs.{needs}
 use denote.Ref.{now}
 use Rattle.receiver.specs.Marks.{marks, marksWritten}
 use Rattle.receiver.proofs.MarkStores.{more, marks-over}
-use Rattle.receiver.proofs.write_marks.Statement.{statement}
-use Rattle.receiver.proofs.write_marks.Tie as tie
+use Rattle.receiver.proofs.marks.write_marks.Statement.{statement}
+use Rattle.receiver.proofs.marks.write_marks.Tie as tie
 
 abbrev Inv-loop : tie.InvT-loop
 Inv-loop count space₀ written mark k₀ space k = (k ≤ written) × (3 * written ≤ length space) × (space ≡ sets space₀ 0 (marks k))

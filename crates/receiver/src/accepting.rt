@@ -1,0 +1,118 @@
+// The step of a packet that was read.
+ghost use mathlib.Core.Path.{_≡_};
+ghost use Prim.Native.Nat.{_≤_};
+ghost use Rattle.packet.specs.Limits.{level};
+ghost use Rattle.delivery.specs.Record as Entries;
+ghost use Rattle.delivery.specs.Numbers as Numbers;
+ghost use Rattle.receiver.specs.Distance as Distance;
+ghost use Rattle.receiver.specs.Accepted.{followed, laterAccepted, acceptedStep};
+ghost use Rattle.receiver.specs.Step.{advanced};
+use crate::Advanced;
+use crate::Answer;
+use crate::Receiver;
+use packet::Packet;
+
+// How far ahead of the expected number a packet is, wrapped.
+fn ahead(sequence: u16, expected: u16) -> u16
+    ensures { λ r. ⌜ r ≡ Numbers.distance sequence expected ⌝ }
+{
+    std::num::wrapping_sub_u16(sequence, expected)
+}
+
+// The same as a signed number: below 0 where the packet is late.
+fn signed(d: u16) -> i16
+    ensures { λ r. ⌜ r ≡ Distance.signed d ⌝ }
+{
+    if d < 32768 {
+        return d as i16;
+    }
+    let left = 65535 - d;
+    -1 - (left as i16)
+}
+
+fn next(sequence: u16) -> u16
+    ensures { λ r. ⌜ r ≡ Numbers.next sequence ⌝ }
+{
+    std::num::wrapping_add_u16(sequence, 1)
+}
+
+fn loss_of(d: u16, older: usize) -> u16
+    ensures { λ r. ⌜ r ≡ Entries.loss d older ⌝ }
+{
+    let missing = d as usize;
+    if missing <= older {
+        return 0;
+    }
+    (missing - older) as u16
+}
+
+fn wanted_of(d: u16, older: usize) -> usize
+    ensures { λ r. ⌜ r ≡ Entries.wanted d older ⌝ }
+{
+    let missing = d as usize;
+    if missing <= older {
+        return missing;
+    }
+    older
+}
+
+// A forward packet: its last `wanted` older blocks and its primary are given, and the next number is expected.
+fn follow(receiver: Receiver, packet: Packet, loss: u16, distance: i16, wanted: usize) -> Advanced
+    requires { ⌜ (wanted ≤ packet .count) × (packet .count ≤ level) ⌝ }
+    ensures { λ r. ⌜ advanced r ≡ followed receiver packet loss distance wanted ⌝ }
+{
+    let older = packet.count;
+    let first = older - wanted;
+    let from = packet.start_of(first);
+    let given = wanted + 1;
+    let expected = next(packet.sequence);
+    Advanced {
+        receiver: Receiver {
+            t140: receiver.t140,
+            red: receiver.red,
+            has_source: true,
+            source: packet.source,
+            expected,
+        },
+        answer: Answer::Forward {
+            loss,
+            distance,
+            older,
+            given,
+            from,
+            to: packet.end,
+        },
+    }
+}
+
+// A packet behind the first.
+fn accept_later(receiver: Receiver, packet: Packet) -> Advanced
+    requires { ⌜ packet .count ≤ level ⌝ }
+    ensures { λ r. ⌜ advanced r ≡ laterAccepted receiver packet (Numbers.distance (packet .sequence) (receiver .expected)) ⌝ }
+{
+    let d = ahead(packet.sequence, receiver.expected);
+    let distance = signed(d);
+    if distance < 0 {
+        return Advanced {
+            receiver,
+            answer: Answer::Late { distance },
+        };
+    }
+    let older = packet.count;
+    let loss = loss_of(d, older);
+    let wanted = wanted_of(d, older);
+    follow(receiver, packet, loss, distance, wanted)
+}
+
+// The first packet gives all its blocks.
+pub fn accept(receiver: Receiver, packet: Packet) -> Advanced
+    requires { ⌜ packet .count ≤ level ⌝ }
+    ensures { λ r. ⌜ advanced r ≡ acceptedStep receiver packet ⌝ }
+{
+    let has_source = receiver.has_source;
+    if has_source {
+        return accept_later(receiver, packet);
+    }
+    let older = packet.count;
+    follow(receiver, packet, 0, 0, older)
+}
