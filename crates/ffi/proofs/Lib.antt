@@ -1,1 +1,4 @@
+pub mod Codes
+pub mod Lent
+pub mod Outcomes
 pub mod Stores

@@ -1,2 +1,3 @@
 pub mod Answers
 pub mod Receiving
+pub mod Sending

@@ -1,5 +1,6 @@
 // The functions that C and Rust callers link.
 mod receiving;
+mod sending;
 
 ghost use mathlib.Core.Path.{_≡_};
 ghost use Prim.Native.Nat.{_≤_};

@@ -1,4 +1,4 @@
--- What an opening and an offer come to, by plain facts.
+-- What an opening, an offer and a clock call come to, by plain facts.
 use Prim.Native.Nat.{ℕ, _+_, _<_, _≤_}
 use mathlib.Core.Path.{_≡_}
 use mathlib.Core.List.{List}
@@ -17,6 +17,8 @@ use Rattle.sender.specs.Settings.{bufferingBad, settingsNumber}
 use Rattle.sender.specs.State.{bytesOf, fresh}
 use Rattle.sender.specs.Opening.{openingRefused, openingOf}
 use Rattle.sender.specs.Offering.{offerRefused, senderWith, offerOf}
+use Rattle.sender.specs.Packets.{due, packetBytes}
+use Rattle.sender.specs.Clocking.{clockRefused, clockQuiet, clockSent, clockOf}
 
 -- settings
 module _ (s : Settings) where
@@ -77,3 +79,28 @@ module _ (s : Sender) (t : ℕ) (x : List ℕ) (n : ℕ) (e : n ≡ settingsNumb
           pub offer-joined : length (bytesOf (s .waiting)) + length x ≤ roomSize → offerOf s t x ≡ record { number = 0; sender = senderWith s t x }
           unfolding offerOf
           offer-joined h = rw (← e, ok, le-ltb t (s .clock) later, ne-eqb (length x) 0 some, text, le-ltb roomSize (length (bytesOf (s .waiting)) + length x) h)
+
+-- a clock call
+module _ (s : Sender) (t : ℕ) (p : List ℕ) (n : ℕ) (e : n ≡ settingsNumber (s .settings)) where
+  pub clock-settings : 1 ≤ n → clockOf s t p ≡ clockRefused s p n
+  unfolding clockOf
+  clock-settings h = rw (← e, ne-eqb n 0 (λ z. omega arith))
+
+  module _ (ok : n ≡ 0) where
+    pub clock-5 : t < s .clock → clockOf s t p ≡ clockRefused s p 5
+    unfolding clockOf
+    clock-5 h = rw (← e, ok, lt-ltb t (s .clock) h)
+
+    module _ (later : s .clock ≤ t) where
+      pub clock-quiet : due s t ≡ false → clockOf s t p ≡ clockQuiet s t p
+      unfolding clockOf
+      clock-quiet h = rw (← e, ok, le-ltb t (s .clock) later, h)
+
+      module _ (is-due : due s t ≡ true) where
+        pub clock-8 : length p < length (packetBytes s t) → clockOf s t p ≡ clockRefused s p 8
+        unfolding clockOf
+        clock-8 h = rw (← e, ok, le-ltb t (s .clock) later, is-due, lt-ltb (length p) (length (packetBytes s t)) h)
+
+        pub clock-sent : length (packetBytes s t) ≤ length p → clockOf s t p ≡ clockSent s t p
+        unfolding clockOf
+        clock-sent h = rw (← e, ok, le-ltb t (s .clock) later, is-due, le-ltb (length p) (length (packetBytes s t)) h)

@@ -1,6 +1,6 @@
 -- The blocks that a packet carries: few, recent, and such as may be sent.
 use Prim.Native.Nat.{ℕ, suc, _-_, _≤_}
-use mathlib.Core.Path.{_≡_}
+use mathlib.Core.Path.{_≡_, refl}
 use mathlib.Core.List.{List, [], _∷_, reverse}
 use mathlib.Core.Bool.{Bool, true, false, _&&_}
 use native.Mathlib.Omega.{arith}
@@ -21,12 +21,12 @@ use Rattle.sender.proofs.Good.{Sendable, AllSendable, Good}
 abbrev pub Repeatable : Redundancy.Block → Type 0
 Repeatable b = Sendable (b .bytes) × (b .offset ≤ oldestAge)
 
-age : (t : ℕ) (b : Block) → recent t b ≡ true → t - b .at ≤ oldestAge
-age t b e = leb-true (t - b .at) oldestAge (go (leb (b .at) t) e)
+pub recent-true : (t : ℕ) (b : Block) → recent t b ≡ true → (b .at ≤ t) × (t - b .at ≤ oldestAge)
+recent-true t b e = go (leb (b .at) t) refl e
   where
-    go : (a : Bool) → (a && leb (t - b .at) oldestAge) ≡ true → leb (t - b .at) oldestAge ≡ true
-    go true e = e
-    go false e = absurd (let z : _≡_ {A = ℕ} 0 1 = cc in omega arith)
+    go : (a : Bool) → leb (b .at) t ≡ a → (a && leb (t - b .at) oldestAge) ≡ true → (b .at ≤ t) × (t - b .at ≤ oldestAge)
+    go true p e = (leb-true (b .at) t p, leb-true (t - b .at) oldestAge e)
+    go false p e = absurd (let z : _≡_ {A = ℕ} 0 1 = cc in omega arith)
 
 module _ (t : ℕ) where
   abbrev Carriable : Block → Type 0
@@ -34,9 +34,9 @@ module _ (t : ℕ) where
 
   run-good : (bs : List Block) → AllSendable bs → Every Carriable (recentRun t bs)
   run-good [] e = tt
-  run-good (b ∷ bs) e = by-test (Every Carriable) (recent t b) (λ r. ((e .0, age t b r), run-good bs (e .1))) (λ r. tt)
+  run-good (b ∷ bs) e = by-test (Every Carriable) (recent t b) (λ r. ((e .0, recent-true t b r .1), run-good bs (e .1))) (λ r. tt)
 
-  run-few : (bs : List Block) → length (recentRun t bs) ≤ length bs
+  pub run-few : (bs : List Block) → length (recentRun t bs) ≤ length bs
   run-few [] = omega arith
   run-few (b ∷ bs) = by-test (λ (l : List Block). length l ≤ suc (length bs)) (recent t b) (λ r. let h = run-few bs in omega arith) (λ r. omega arith)
 

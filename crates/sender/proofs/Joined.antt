@@ -1,9 +1,9 @@
 -- The waiting room that an offer leaves.
 use Prim.Native.Nat.{ℕ, zero, suc, _+_, _-_, _≤_}
-use mathlib.Core.Path.{_≡_, _∙_, refl, ap, sym}
+use mathlib.Core.Path.{_≡_, _∙_, refl, ap}
 use mathlib.Core.List.{List, [], _∷_, _++_}
 use native.Mathlib.Omega.{arith}
-use lib.ListN.{length, take, replicate, length-append, length-take}
+use lib.ListN.{length, take, replicate, length-append}
 use borrow.Rule.Slice.PartMut.{putMid, midOf}
 use Rattle.sender.specs.declared.Block.{Block}
 use Rattle.packet.specs.Arrays.{filled, over}
@@ -17,15 +17,9 @@ take-taken zero l = refl
 take-taken (suc n) [] = refl
 take-taken (suc n) (x ∷ l) = ap (λ (m : List ℕ). x ∷ m) (take-taken n l)
 
--- a block's text lies within its bytes, and is as many of them as it is long
-pub text-inside : (b : Block) (n : ℕ) → n ≡ length (bytesOf b) → n ≤ length (b .bytes)
-text-inside b n e = omega (arith, length-take (b .len) (b .bytes))
-
+-- a block's text is as many of its bytes as it is long
 pub text-front : (b : Block) (n : ℕ) → n ≡ length (bytesOf b) → take n (b .bytes) ≡ bytesOf b
 text-front b n e = ap (λ (k : ℕ). take k (b .bytes)) e ∙ take-taken (b .len) (b .bytes)
-
-pub front-length : (b : Block) (n : ℕ) → n ≡ length (bytesOf b) → length (take n (b .bytes)) ≡ n
-front-length b n e = ap length (text-front b n e) ∙ sym e
 
 -- a room of zeros into which the waiting text was copied, and behind it the offered
 pub joined-is : (b : Block) (t : ℕ) (x : List ℕ) (n at : ℕ) (room part : List ℕ)

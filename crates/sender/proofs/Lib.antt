@@ -3,6 +3,10 @@ pub mod CaseTests
 pub mod Shapes
 pub mod Calls
 pub mod Written
+pub mod Older
+pub mod Runs
+pub mod Behind
+pub mod Whole
 pub mod Joined
 pub mod Kept
 pub mod Every

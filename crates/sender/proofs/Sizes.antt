@@ -15,7 +15,7 @@ use Rattle.sender.proofs.Every.{Every}
 abbrev pub Short : Block → Type 0
 Short b = length (b .bytes) ≤ roomSize
 
-heads-size : (t140 : ℕ) (bs : List Block) → length (headsBytes t140 bs) ≡ 4 * length bs + 1
+pub heads-size : (t140 : ℕ) (bs : List Block) → length (headsBytes t140 bs) ≡ 4 * length bs + 1
 heads-size t140 [] = refl
 heads-size t140 (b ∷ bs) = omega (arith, heads-size t140 bs)
 

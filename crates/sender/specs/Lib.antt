@@ -5,4 +5,5 @@ pub mod Answers
 pub mod Opening
 pub mod Offering
 pub mod Packets
+pub mod Parts
 pub mod Clocking

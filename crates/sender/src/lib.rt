@@ -1,19 +1,23 @@
 // The sender of an RTP text line (RFC 4103, section 5): text waits in a room and leaves in packets that repeat the last blocks.
 mod blocks;
-mod fill;
+mod clocking;
+mod due;
 mod offering;
 mod opening;
+mod writing;
 
 ghost use mathlib.Core.Path.{_≡_};
-ghost use Rattle.sender.specs.Answers.{opened, offered};
+ghost use Rattle.sender.specs.Answers.{opened, offered, clocked};
 ghost use Rattle.sender.specs.Opening.{openingOf};
 ghost use Rattle.sender.specs.Offering.{offerOf};
+ghost use Rattle.sender.specs.Clocking.{clockOf};
 use packet::Outcome;
 use packet::Packet;
 use packet::Refusal;
 
 // What a sender is opened with: the number of repeats, the buffering time in ms, the two payload types, the first sequence
 // number, the first timestamp and the source.
+#[repr(C)]
 pub struct Settings {
     pub level: usize,
     pub buffering: u64,
@@ -32,6 +36,7 @@ impl Settings {
 }
 
 // Text and its time: of the waiting room, when its first byte was offered; of a block, when it was sent.
+#[repr(C)]
 pub struct Block {
     pub bytes: [u8; Sender::ROOM],
     pub len: usize,
@@ -39,6 +44,7 @@ pub struct Block {
 }
 
 // Whether a packet was sent, when the last one was, when the last one with text was, and the next sequence number.
+#[repr(C)]
 pub struct Progress {
     pub sent: bool,
     pub last: u64,
@@ -47,6 +53,7 @@ pub struct Progress {
 }
 
 // A sender: the latest accepted clock, the waiting room, and the last blocks sent, newest first.
+#[repr(C)]
 pub struct Sender {
     pub settings: Settings,
     pub clock: u64,
@@ -106,6 +113,34 @@ impl Sender {
             return offering::refused(self, Refusal::WaitingRoom);
         }
         offering::accepted(self, clock, text)
+    }
+
+    // Gives the clock: where a packet is due, it is written to the front of the lent packet; where the call is refused, the
+    // sender stays as it is.
+    pub fn clock(self, clock: u64, packet: &mut [u8]) -> Clocked
+        ensures { λ r. ⌜ clocked r (now (packet .exit)) ≡ clockOf self clock (now (packet .entry)) ⌝ }
+    {
+        let settings = self.settings;
+        let outcome = opening::settings_outcome(settings);
+        match outcome {
+            Outcome::Refused(refusal) => return clocking::refused(self, refusal),
+            Outcome::Accepted => {}
+        }
+        let accepted = self.clock;
+        if clock < accepted {
+            return clocking::refused(self, Refusal::Clock);
+        }
+        let plan = due::planned(self, clock);
+        let due = plan.due;
+        if !due {
+            return clocking::quiet(self, clock);
+        }
+        let len = plan.len;
+        if packet.len() < len {
+            return clocking::refused(self, Refusal::Space);
+        }
+        clocking::put_packet(packet, self, clock, plan.count);
+        clocking::sent(self, clock, len)
     }
 }
 

@@ -12,7 +12,6 @@ use crate::Block;
 use crate::Offered;
 use crate::Sender;
 use crate::blocks;
-use crate::fill;
 use packet::Outcome;
 use packet::Refusal;
 use packet::Text;
@@ -54,10 +53,9 @@ fn joined(waiting: Block, clock: u64, text: &[u8]) -> Block
 {
     let at = since(waiting, clock);
     let len = blocks::text_len(waiting);
-    let held = waiting.bytes;
     let mut bytes = [0u8; Sender::ROOM];
-    fill::fill(&mut bytes, &held[..len]);
-    fill::fill(&mut bytes[len..], text);
+    blocks::copy_front(&waiting.bytes, len, &mut bytes);
+    bytes::copy(text, &mut bytes[len..]);
     let more = len + text.len();
     Block {
         bytes,

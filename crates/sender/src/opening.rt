@@ -4,10 +4,10 @@ ghost use Rattle.packet.specs.Refusal.{outcomeNumber};
 ghost use Rattle.delivery.specs.Numbers.{wrapped};
 ghost use Rattle.sender.specs.Settings.{bufferingBad, settingsNumber};
 ghost use Rattle.sender.specs.State as State;
-use crate::Block;
 use crate::Progress;
 use crate::Sender;
 use crate::Settings;
+use crate::blocks;
 use packet::Outcome;
 use packet::Refusal;
 
@@ -48,11 +48,7 @@ fn first(sequence: u16) -> u16
 pub fn fresh(settings: Settings) -> Sender
     ensures { λ r. ⌜ r ≡ State.fresh settings ⌝ }
 {
-    let empty = Block {
-        bytes: [0u8; Sender::ROOM],
-        len: 0,
-        at: 0,
-    };
+    let empty = blocks::empty();
     let next = first(settings.sequence);
     let progress = Progress {
         sent: false,

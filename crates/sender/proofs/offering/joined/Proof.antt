@@ -1,8 +1,11 @@
-use mathlib.Core.Path.{sym}
+use Prim.Native.Nat.{_-_}
 use native.Mathlib.Omega.{arith}
-use borrow.Author.Needs.{needs}
+use borrow.Rule.Slice.PartMut.{midOf}
 use denote.Ref.{now}
-use Rattle.sender.proofs.Joined.{text-inside, front-length, joined-is}
+use Rattle.sender.specs.Limits.{roomSize}
+use Rattle.sender.proofs.Written.{copied}
+use Rattle.sender.proofs.Joined.{joined-is}
+use borrow.Author.Needs.{needs}
 use Rattle.sender.proofs.offering.joined.Statement.{statement}
 use Rattle.sender.proofs.offering.joined.Tie as tie
 
@@ -12,20 +15,14 @@ since-requires c κs = search needs
 text-len-requires : tie.Need-text-len-requires
 text-len-requires c κs = search needs
 
-slice-aggregate-fill : tie.Need-slice-aggregate-fill
-slice-aggregate-fill c = search needs
+slice-aggregate-copy-front : tie.Need-slice-aggregate-copy-front
+slice-aggregate-copy-front c = search needs
 
-array-share-prefix-held : tie.Need-array-share-prefix-held
-array-share-prefix-held c = text-inside (c .before .before .before .before .before .args .waiting) (c .before .before .text-len .result) (c .before .before .text-len .ensures .0)
+copy-front-requires : tie.Need-copy-front-requires
+copy-front-requires c κs = search needs
 
-slice-aggregate-fill-2 : tie.Need-slice-aggregate-fill-2
-slice-aggregate-fill-2 c = sym (front-length (c .before .before .before .before .before .before .args .waiting) (c .before .before .before .text-len .result) (c .before .before .before .text-len .ensures .0))
-
-fill-requires : tie.Need-fill-requires
-fill-requires c κs = omega (arith, front-length (c .before .before .before .before .before .before .args .waiting) (c .before .before .before .text-len .result) (c .before .before .before .text-len .ensures .0))
-
-sub-fill : tie.Need-sub-fill
-sub-fill c = search needs
+sub-copy : tie.Need-sub-copy
+sub-copy c = search needs
 
 part-bytes-start : tie.Need-part-bytes-start
 part-bytes-start c = search needs
@@ -33,18 +30,20 @@ part-bytes-start c = search needs
 part-bytes-end : tie.Need-part-bytes-end
 part-bytes-end c = search needs
 
-fill-requires-2 : tie.Need-fill-requires-2
-fill-requires-2 c κs = search needs
+copy-requires : tie.Need-copy-requires
+copy-requires c κs = search needs
 
 add-more : tie.Need-add-more
 add-more c = search needs
 
 returns : tie.Need-returns
 returns c =
-    let a = c .before .before .before .before .before .before .before .before .before .before .before .args in
-    let l = c .before .before .before .before .before .before .before .before .text-len in
-    joined-is (a .waiting) (a .clock) (now (a .text)) (l .result) (c .before .before .before .before .before .before .before .before .before .since .result) (c .before .before .before .before .fill .last .0) (c .before .fill2 .last .0) (l .ensures .0) (omega arith)
-    (c .before .before .before .before .fill .ensures) (c .before .fill2 .ensures) (c .before .before .before .before .before .before .before .before .before .since .ensures)
+    let a = c .before .before .before .before .before .before .before .before .before .before .before .before .args in
+    let n = c .before .before .before .before .before .before .before .before .before .text-len in
+    let room = c .before .before .before .before .copy-front in
+    let part = c .before .copy in
+    joined-is (a .t1) (a .clock) (now (a .text)) (n .result) (c .before .before .before .before .before .before .before .before .before .before .since .result) (room .last .1 .1 .0) (part .last .1 .0) (n .ensures .0) (omega arith) (room .ensures)
+    (copied (now (a .text)) (midOf (n .result) (roomSize - n .result) (room .last .1 .1 .0)) (part .last .1 .0) (part .ensures .1)) (c .before .before .before .before .before .before .before .before .before .before .since .ensures)
 
 pub joined-spec : {M : Type 1} → statement M
 joined-spec =
@@ -52,13 +51,11 @@ joined-spec =
     (tie.spec
     since-requires
     text-len-requires
-    slice-aggregate-fill
-    array-share-prefix-held
-    slice-aggregate-fill-2
-    fill-requires
-    sub-fill
+    slice-aggregate-copy-front
+    copy-front-requires
+    sub-copy
     part-bytes-start
     part-bytes-end
-    fill-requires-2
+    copy-requires
     add-more
     returns)
