@@ -11,18 +11,33 @@ pub struct Packets {
 }
 
 impl Packets {
-    pub fn new(seed: u64, count: usize) -> Packets {
+    /// Packets that have nothing to do with each other.
+    pub fn mixed(seed: u64, count: usize) -> Packets {
         let mut random = Random::new(seed);
+        Packets::of(count, || packet(&mut random))
+    }
+
+    /// Packets of one line, in the order of arrival.
+    pub fn line(seed: u64, count: usize) -> Packets {
+        let mut random = Random::new(seed);
+        let mut number = 65_000;
+        Packets::of(count, || arrival(&mut random, &mut number))
+    }
+
+    fn of(count: usize, mut packet: impl FnMut() -> Vec<u8>) -> Packets {
         let mut packets = Packets {
             bytes: vec![],
             ends: Vec::with_capacity(count),
         };
         for _ in 0..count {
-            let packet = packet(&mut random);
-            packets.bytes.extend(packet);
+            packets.bytes.extend(packet());
             packets.ends.push(packets.bytes.len());
         }
         packets
+    }
+
+    pub fn count(&self) -> usize {
+        self.ends.len()
     }
 
     pub fn iter(&self) -> impl Iterator<Item = &[u8]> {
@@ -43,17 +58,58 @@ impl Packets {
 fn packet(random: &mut Random) -> Vec<u8> {
     match random.below(10) {
         0..=5 => typed(random).bytes(),
-        6 | 7 => {
-            let mut plan = Plan::new(random, T140);
-            plan.primary = letters(random, 12);
-            plan.bytes()
-        }
+        6 | 7 => plain(random).bytes(),
         8 => longer(random).bytes(),
         _ => {
             let packet = typed(random).bytes();
             mutate(random, packet)
         }
     }
+}
+
+const SOURCE: u32 = 0x11223344;
+
+/// The next arrival of a line: 60 in 100 typed RED and 20 T140 in order, 10
+/// behind losses or late, 10 damaged so that they are refused.
+fn arrival(random: &mut Random, number: &mut u16) -> Vec<u8> {
+    let kind = random.below(10);
+    let mut plan = match kind {
+        6 | 7 => plain(random),
+        _ => typed(random),
+    };
+    let behind = random.within(1, 8) as u16;
+    let late = kind == 8 && random.once_in(2);
+    if kind == 8 && !late {
+        *number = number.wrapping_add(behind);
+    }
+    plan.source = SOURCE;
+    plan.sequence = match late {
+        true => number.wrapping_sub(behind),
+        false => *number,
+    };
+    if !late {
+        *number = number.wrapping_add(1);
+    }
+    match kind {
+        9 => damaged(random, plan.bytes()),
+        _ => plan.bytes(),
+    }
+}
+
+fn damaged(random: &mut Random, packet: Vec<u8>) -> Vec<u8> {
+    loop {
+        let damaged = mutate(random, packet.clone());
+        if independent::read(Some(SOURCE), T140, RED, &damaged).is_err() {
+            return damaged;
+        }
+    }
+}
+
+/// T140 with up to 12 letters.
+fn plain(random: &mut Random) -> Plan {
+    let mut plan = Plan::new(random, T140);
+    plan.primary = letters(random, 12);
+    plan
 }
 
 /// RED with two older blocks, each block of 0 to 6 letters.

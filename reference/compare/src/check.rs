@@ -4,7 +4,7 @@ use std::fmt::{self, Display, Formatter};
 
 use crate::plan::{Plan, RED, T140};
 use crate::random::Random;
-use stewpigeon::{ANSWER, SHORT_ANSWER};
+use stewpigeon::lent::{self, ANSWER, SHORT_ANSWER};
 
 /// What is known beforehand of a result.
 #[derive(Clone, Copy, Debug, PartialEq, Eq)]
@@ -105,7 +105,7 @@ pub fn check(random: &mut Random, case: &Case) -> Result<u8, Difference> {
     let canary = random.number() | 1;
     let mut lent = vec![canary; BEFORE + case.lent + AFTER];
 
-    let proved = stewpigeon::read_into(
+    let proved = lent::read_into(
         case.expects,
         case.source,
         case.t140,
@@ -174,7 +174,7 @@ pub fn check_text(random: &mut Random, text: &[u8]) -> Result<bool, Difference> 
     let mut lent = vec![canary; 1 + size + 2];
 
     let place = before..before + text.len();
-    let proved = stewpigeon::text_into(&around[place], &mut lent[1..1 + size]);
+    let proved = lent::text_into(&around[place], &mut lent[1..1 + size]);
 
     let mut wanted = vec![canary; lent.len()];
     let mut wanted_number = SHORT_ANSWER;

@@ -1,11 +1,13 @@
-//! Gives the same packets and texts to the proved reader and to the
-//! independent one, and looks for a difference.
+//! Gives the same packets, texts and calls to the proved library and to the
+//! independent program, and looks for a difference.
 #![forbid(unsafe_code)]
 
+pub mod calls;
 pub mod captures;
 pub mod check;
 pub mod damage;
 pub mod kinds;
+pub mod output;
 pub mod plan;
 pub mod run;
 mod shapes;

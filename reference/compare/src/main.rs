@@ -1,41 +1,49 @@
-//! Compares the proved reader with the independent one.
+//! Compares the proved library with the independent program.
 #![forbid(unsafe_code)]
 
 use std::env;
+use std::io::{self, Write};
 use std::process::exit;
 use std::time::{Instant, SystemTime, UNIX_EPOCH};
 
+use compare::calls::{self, tally::Call};
 use compare::run::{run, Counts};
+use compare::say;
 
 const USAGE: &str = "\
-Usage: compare [--seed N | --random-seed] [--packets N]
+Usage: compare [--seed N | --random-seed] [--packets N] [--calls N]
 
-Gives generated packets to the proved reader and to an independent one and
-stops at the first difference.
+Gives generated packets to the proved reader and to an independent one, then
+calls to the proved receiver, mark writer and sender and to independent ones,
+and stops at the first difference.
 
   --seed N        generate from seed N (default 4103)
   --random-seed   take a seed from the clock and print it
-  --packets N     give at least N packets (default 500000)
+  --packets N     give at least N packets to the readers (default 500000)
+  --calls N       make at least N calls of each other kind (default 200000)
   --help          print this text";
 
 struct Options {
     seed: u64,
     packets: usize,
+    calls: usize,
 }
 
 fn options() -> Result<Options, String> {
     let mut options = Options {
         seed: 4103,
         packets: 500_000,
+        calls: 200_000,
     };
     let mut arguments = env::args().skip(1);
     while let Some(argument) = arguments.next() {
         match argument.as_str() {
             "--seed" => options.seed = number(&argument, arguments.next())?,
             "--packets" => options.packets = number(&argument, arguments.next())?,
+            "--calls" => options.calls = number(&argument, arguments.next())?,
             "--random-seed" => options.seed = clock(),
             "--help" => {
-                println!("{USAGE}");
+                say!("{USAGE}");
                 exit(0);
             }
             _ => return Err(format!("unknown argument: {argument}")),
@@ -59,22 +67,36 @@ fn clock() -> u64 {
 
 fn print(counts: &Counts) {
     for (name, count) in &counts.named {
-        println!("{count:>9}  {name}");
+        say!("{count:>9}  {name}");
     }
-    println!("\n  packets  kind: answers (0 is accepted, 255 a short lent answer)");
+    say!("\n  packets  kind: answers (0 is accepted, 255 a short lent answer)");
     for (name, numbers) in &counts.kinds {
         let total: usize = numbers.values().sum();
         let answers: Vec<String> = numbers.iter().map(|(k, n)| format!("{k}:{n}")).collect();
-        println!("{total:>9}  {name}: {}", answers.join(" "));
+        say!("{total:>9}  {name}: {}", answers.join(" "));
     }
-    println!("\n  packets  answer, over all kinds");
+    say!("\n  packets  answer, over all kinds");
     for (number, count) in counts.numbers() {
-        println!("{count:>9}  {number}");
+        say!("{count:>9}  {number}");
     }
-    println!("\n    texts  kind: how many are UTF-8");
+    say!("\n    texts  kind: how many are UTF-8");
     for count in &counts.texts {
-        println!("{:>9}  {}: {}", count.texts, count.name, count.good);
+        say!("{:>9}  {}: {}", count.texts, count.name, count.good);
     }
+}
+
+/// Ends with status 1, also where nobody reads why.
+fn fail(why: &str) -> ! {
+    let _ = writeln!(io::stdout(), "{why}");
+    exit(1);
+}
+
+/// Says where both programs differ, and ends.
+fn differ(options: &Options, difference: String) -> ! {
+    fail(&format!(
+        "DIFFERENCE in {difference}\nAgain: compare --seed {} --packets {} --calls {}",
+        options.seed, options.packets, options.calls
+    ))
 }
 
 fn main() {
@@ -82,27 +104,23 @@ fn main() {
         eprintln!("compare: {wrong}\n\n{USAGE}");
         exit(2);
     });
-    println!("seed {}", options.seed);
+    say!("seed {}", options.seed);
     let start = Instant::now();
-    let counts = run(options.seed, options.packets).unwrap_or_else(|difference| {
-        println!("DIFFERENCE in {difference}");
-        println!(
-            "Again: compare --seed {} --packets {}",
-            options.seed, options.packets
-        );
-        exit(1);
-    });
+    let counts = run(options.seed, options.packets)
+        .unwrap_or_else(|difference| differ(&options, difference));
     print(&counts);
-    let missing = counts.missing();
-    for what in &missing {
-        println!("MISSING: {what}");
-    }
+    let tally = calls::run(options.seed, options.calls)
+        .unwrap_or_else(|difference| differ(&options, difference));
+    tally.print();
+    let mut missing = counts.missing();
+    missing.extend(tally.missing());
     if !missing.is_empty() {
-        exit(1);
+        fail(&format!("MISSING: {}", missing.join("\nMISSING: ")));
     }
-    let total: usize = counts.numbers().values().sum();
-    println!(
-        "\nno difference in {total} packets, {:.1} s",
+    let packets: usize = counts.numbers().values().sum();
+    let calls: usize = Call::ALL.iter().map(|call| tally.calls(*call)).sum();
+    say!(
+        "\nno difference in {packets} packets and {calls} calls, {:.1} s",
         start.elapsed().as_secs_f64()
     );
 }

@@ -7,7 +7,7 @@ use crate::kinds::KINDS;
 use crate::random::Random;
 use crate::{captures, texts};
 use independent::{paper, refusal};
-use stewpigeon::SHORT_ANSWER;
+use stewpigeon::lent::SHORT_ANSWER;
 
 /// How often each number was answered; 0 is acceptance.
 pub type Numbers = BTreeMap<u8, usize>;

@@ -1,5 +1,6 @@
-use compare::captures;
+use compare::calls::tally::{Answer, Call, Tally};
 use compare::run::run;
+use compare::{calls, captures};
 
 #[test]
 fn no_difference_in_a_small_run() {
@@ -27,4 +28,23 @@ fn what_was_never_met_is_named() {
     counts.kinds[0].1.clear();
     let what = format!("no packet of kind: {}", counts.kinds[0].0);
     assert!(counts.missing().contains(&what));
+}
+
+#[test]
+fn no_difference_in_few_calls() {
+    let tally = calls::run(1, 3_000).unwrap_or_else(|difference| panic!("{difference}"));
+    assert_eq!(tally.missing(), Vec::<String>::new());
+    assert!(Call::ALL.iter().all(|call| tally.calls(*call) >= 3_000));
+}
+
+#[test]
+fn answers_never_given_are_named() {
+    let mut tally = Tally::default();
+    tally.add(Call::Clock, Answer::Done("sent"));
+    tally.meet("a blue moon", false);
+    let missing = tally.missing();
+    assert!(missing.contains(&"sender clock was never answered quiet".to_string()));
+    assert!(missing.contains(&"sender offer was never answered 4".to_string()));
+    assert!(!missing.contains(&"sender clock was never answered sent".to_string()));
+    assert!(missing.contains(&"never met: a blue moon".to_string()));
 }

@@ -38,7 +38,7 @@ pub struct Delivery {
 }
 
 /// Good settings with any numbers, their bounds being likely.
-pub fn settings(random: &mut Random, level: u8) -> Settings {
+pub fn settings(random: &mut Random, level: usize) -> Settings {
     let t140 = random.within(96, 127) as u8;
     let mut red = t140;
     while red == t140 {
@@ -143,7 +143,7 @@ pub fn deliveries(random: &mut Random, packets: &[Vec<u8>]) -> Vec<Delivery> {
     let loss = random.pick(&[2, 3, 5, 20, 1000]);
     let copy = random.pick(&[2, 5, 50]);
     let delay = random.pick(&[2, 5, 50]);
-    let farthest = random.pick(&[2, 5, packets.len().max(1)]);
+    let farthest = random.pick(&[2, 5, packets.len().clamp(1, 32_767)]);
     let mut lost = 0;
     let mut arrivals = vec![];
     for number in 0..packets.len() {
@@ -190,4 +190,28 @@ fn deliver(random: &mut Random, number: usize, mut packet: Vec<u8>) -> Delivery 
         packet,
         state,
     }
+}
+
+/// Packets heard in jumps up to the window's ends, ahead and behind.
+pub fn jumps(random: &mut Random, packets: &[Vec<u8>]) -> Vec<Delivery> {
+    let mut newest = random.below(50_000);
+    let mut deliveries = vec![];
+    let mut deliver = |number: usize| {
+        deliveries.push(Delivery {
+            number,
+            packet: packets[number].clone(),
+            state: State::Whole,
+        })
+    };
+    while newest < packets.len() {
+        deliver(newest);
+        let far = random.below(32_768);
+        for back in [0, 1, far, 32_766, 32_767] {
+            if random.once_in(3) && back <= newest {
+                deliver(newest - back);
+            }
+        }
+        newest += random.pick(&[1, 2, 5, 6, far, 32_767, 32_768]).max(1);
+    }
+    deliveries
 }

@@ -1,16 +1,22 @@
-//! A second reader, receiver and sender of RTP text packets (RFC 4103), to
-//! hold the proved ones against. They were written from the scope paper and
-//! the RFCs alone.
+//! A second reader, receiver and sender of RTP text packets (RFC 4103) and a
+//! second journal reader and transcript, to hold the proved ones against.
+//! They were written from the scope paper and the RFCs alone.
 #![forbid(unsafe_code)]
 
+pub mod block;
 pub mod channel;
+pub mod journal;
+pub mod journals;
 pub mod maker;
 pub mod paper;
 pub mod random;
 pub mod receiver;
 pub mod record;
+pub mod recorder;
 pub mod refusal;
 pub mod sender;
+pub mod stream;
+pub mod transcript;
 mod utf8;
 
 pub use utf8::text;

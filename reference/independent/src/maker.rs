@@ -48,7 +48,7 @@ fn block(random: &mut Random) -> Vec<u8> {
 /// The packet of the last block sent.
 fn packet(random: &mut Random, settings: &Settings, sent: &[Sent], source: u32) -> Vec<u8> {
     let k = sent.len() - 1;
-    let run = run(sent, settings.level.into(), k);
+    let run = run(sent, settings.level, k);
     let plain = run == 0 && random.once_in(2);
     let payload_type = if plain { settings.t140 } else { settings.red };
     let sources = random.pick(&[0, 0, 0, 1, 15]);

@@ -26,7 +26,8 @@ pub struct Sent {
 pub fn add(record: &mut Vec<Entry>, answer: &Answer) {
     if let Answer::Forward(forward) = answer {
         record.extend(repeat_n(Entry::Mark, forward.loss.into()));
-        record.extend(forward.blocks.iter().map(|b| Entry::Block(b.to_vec())));
+        let blocks = forward.blocks().into_iter();
+        record.extend(blocks.map(|block| Entry::Block(block.to_vec())));
     }
 }
 

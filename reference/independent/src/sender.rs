@@ -1,20 +1,23 @@
-//! The sender: waiting text, the due rule and the packets it writes.
+//! The sender: waiting text, the due rule and the packets it writes. No call
+//! allocates.
 
-use std::collections::VecDeque;
+use std::mem::take;
 
-use crate::{payload_types, refusal, text, MOST_OLDER};
+use crate::block::{Block, ROOM};
+use crate::{payload_types, refusal, text, HEADER, MOST_OLDER};
 
-/// How many bytes may wait, and so the longest block.
-pub const ROOM: usize = 160;
 /// The greatest age in ms at which a block is still repeated.
 pub const OLDEST: u64 = 16_383;
 
 const LONGEST_BUFFERING: u64 = 500;
 
+/// The waiting room and the last blocks sent.
+const KEPT: usize = 1 + MOST_OLDER;
+
 #[derive(Clone, Copy, Debug, PartialEq, Eq)]
 pub struct Settings {
     /// How many older blocks each packet repeats.
-    pub level: u8,
+    pub level: usize,
     /// The buffering time in ms.
     pub buffering: u64,
     pub t140: u8,
@@ -27,8 +30,9 @@ pub struct Settings {
 }
 
 impl Settings {
+    #[inline]
     fn check(&self) -> Result<(), u8> {
-        if usize::from(self.level) > MOST_OLDER {
+        if self.level > MOST_OLDER {
             return Err(refusal::LEVEL);
         }
         if self.buffering == 0 || self.buffering > LONGEST_BUFFERING {
@@ -38,25 +42,19 @@ impl Settings {
     }
 }
 
-/// A block and when it was sent as primary.
-#[derive(Clone, Debug, PartialEq, Eq)]
-struct Block {
-    clock: u64,
-    bytes: Vec<u8>,
-}
-
-#[derive(Clone, Debug, PartialEq, Eq)]
+#[derive(Clone, Debug)]
 pub struct Sender {
     settings: Settings,
     /// The latest accepted clock.
     latest: u64,
-    waiting: Vec<u8>,
-    /// When the first waiting byte was offered; 0 when none waits.
-    since: u64,
+    /// In a circle: the waiting room, and before it the last blocks sent.
+    kept: [Block; KEPT],
+    /// Where the waiting room is among them.
+    room: usize,
+    /// How many blocks are kept that were sent.
+    count: usize,
     /// The next packet's sequence number.
     sequence: u16,
-    /// The last blocks sent, oldest first, at most as many as are repeated.
-    sent: VecDeque<Block>,
     last_packet: Option<u64>,
     last_text: Option<u64>,
 }
@@ -93,16 +91,59 @@ impl Sender {
         Sender {
             settings,
             latest: 0,
-            waiting: vec![],
-            since: 0,
+            kept: [Block::EMPTY; KEPT],
+            room: 0,
+            count: 0,
             sequence: settings.sequence,
-            sent: VecDeque::new(),
             last_packet: None,
             last_text: None,
         }
     }
 
+    #[inline]
+    pub fn settings(&self) -> &Settings {
+        &self.settings
+    }
+
+    /// The latest accepted clock.
+    #[inline]
+    pub fn latest(&self) -> u64 {
+        self.latest
+    }
+
+    /// The text that waits and when its first byte was offered; clock 0 when
+    /// nothing waits.
+    #[inline]
+    pub fn waiting(&self) -> &Block {
+        &self.kept[self.room]
+    }
+
+    /// The next packet's sequence number.
+    #[inline]
+    pub fn sequence(&self) -> u16 {
+        self.sequence
+    }
+
+    /// The last blocks sent, at most four whatever the level, newest first.
+    #[inline]
+    pub fn blocks(&self) -> impl Iterator<Item = &Block> {
+        (1..=self.count).map(|back| self.back(back))
+    }
+
+    /// When the last packet was sent.
+    #[inline]
+    pub fn last_packet(&self) -> Option<u64> {
+        self.last_packet
+    }
+
+    /// When the last packet with text was sent.
+    #[inline]
+    pub fn last_text(&self) -> Option<u64> {
+        self.last_text
+    }
+
     /// Puts text into the waiting room.
+    #[inline]
     pub fn offer(&mut self, clock: u64, offered: &[u8]) -> Result<(), u8> {
         self.settings.check()?;
         if clock < self.latest {
@@ -114,18 +155,20 @@ impl Sender {
         if text(offered).is_err() {
             return Err(refusal::OFFERED_UTF8);
         }
-        if offered.len() > ROOM - self.waiting.len() {
+        let waiting = &mut self.kept[self.room];
+        if offered.len() > ROOM - waiting.len() {
             return Err(refusal::ROOM);
         }
-        if self.waiting.is_empty() {
-            self.since = clock;
+        if waiting.is_empty() {
+            waiting.clock = clock;
         }
-        self.waiting.extend(offered);
+        waiting.join(offered);
         self.latest = clock;
         Ok(())
     }
 
     /// Writes the packet due at `clock`, if one is.
+    #[inline]
     pub fn clock(&mut self, clock: u64, space: &mut [u8]) -> Clocked {
         if let Err(number) = self.settings.check() {
             return Clocked::Refused(number);
@@ -133,91 +176,141 @@ impl Sender {
         if clock < self.latest {
             return Clocked::Refused(refusal::CLOCK);
         }
-        if !self.due(clock) {
+        let Some(run) = self.due(clock) else {
             self.latest = clock;
             return Clocked::Quiet;
-        }
-        let packet = self.packet(clock);
-        let Some(place) = space.get_mut(..packet.len()) else {
+        };
+        let length = self.length(run);
+        let Some(packet) = space.get_mut(..length) else {
             return Clocked::Refused(refusal::SPACE);
         };
-        place.copy_from_slice(&packet);
+        self.write(clock, run, packet);
         self.sent(clock);
-        Clocked::Sent(packet.len())
+        Clocked::Sent(length)
     }
 
-    /// The blocks a packet at `clock` repeats, oldest first. No block was
-    /// sent after `clock`.
-    fn repeats(&self, clock: u64) -> Vec<&Block> {
-        let recent = self.sent.iter().rev().take(self.settings.level.into());
-        let mut run: Vec<_> = recent
+    /// The block sent so many packets before the next one.
+    #[inline]
+    fn back(&self, back: usize) -> &Block {
+        &self.kept[(self.room + KEPT - back) % KEPT]
+    }
+
+    /// How many blocks a packet at `clock` repeats. No block was sent after
+    /// `clock`.
+    #[inline]
+    fn run(&self, clock: u64) -> usize {
+        let recent = self.blocks().take(self.settings.level);
+        recent
             .take_while(|block| clock - block.clock <= OLDEST)
-            .collect();
-        run.reverse();
-        run
+            .count()
     }
 
-    fn due(&self, clock: u64) -> bool {
+    /// The last `run` blocks, oldest first.
+    #[inline]
+    fn repeats(&self, run: usize) -> impl Iterator<Item = &Block> {
+        (1..=run).rev().map(|back| self.back(back))
+    }
+
+    /// How many blocks the packet due at `clock` repeats, if one is due.
+    #[inline]
+    fn due(&self, clock: u64) -> Option<usize> {
         let rested = match self.last_packet {
             None => true,
             Some(last) => clock - last >= self.settings.buffering,
         };
-        let repeats = self.repeats(clock);
-        rested && (!self.waiting.is_empty() || repeats.iter().any(|block| !block.bytes.is_empty()))
+        if !rested {
+            return None;
+        }
+        let run = self.run(clock);
+        let text = !self.waiting().is_empty() || self.repeats(run).any(|block| !block.is_empty());
+        text.then_some(run)
     }
 
     fn marker(&self) -> bool {
         if self.last_packet.is_none() {
             return true;
         }
+        let waiting = self.waiting();
         match self.last_text {
-            Some(last) if !self.waiting.is_empty() => self.since - last > self.settings.buffering,
+            Some(last) if !waiting.is_empty() => waiting.clock - last > self.settings.buffering,
             _ => false,
         }
     }
 
-    fn packet(&self, clock: u64) -> Vec<u8> {
-        let settings = &self.settings;
-        let payload_type = if settings.level == 0 {
-            settings.t140
-        } else {
-            settings.red
+    /// The length of a packet that repeats `run` blocks.
+    fn length(&self, run: usize) -> usize {
+        let headers = match self.settings.level {
+            0 => 0,
+            _ => 4 * run + 1,
         };
+        let repeated: usize = self.repeats(run).map(Block::len).sum();
+        HEADER + headers + repeated + self.waiting().len()
+    }
+
+    /// Writes a packet that repeats `run` blocks into space of its length.
+    fn write(&self, clock: u64, run: usize, packet: &mut [u8]) {
+        let settings = &self.settings;
+        let plain = settings.level == 0;
+        let payload_type = if plain { settings.t140 } else { settings.red };
         let timestamp = settings.timestamp.wrapping_add(clock as u32);
-        let mut packet = vec![0x80, u8::from(self.marker()) << 7 | payload_type];
-        packet.extend(self.sequence.to_be_bytes());
-        packet.extend(timestamp.to_be_bytes());
-        packet.extend(settings.source.to_be_bytes());
-        if settings.level > 0 {
-            let repeats = self.repeats(clock);
-            for block in &repeats {
+        let mut rest = packet;
+        put(
+            &mut rest,
+            &[0x80, u8::from(self.marker()) << 7 | payload_type],
+        );
+        put(&mut rest, &self.sequence.to_be_bytes());
+        put(&mut rest, &timestamp.to_be_bytes());
+        put(&mut rest, &settings.source.to_be_bytes());
+        if !plain {
+            for block in self.repeats(run) {
                 let offset = (clock - block.clock) as u32;
                 let header =
-                    u32::from(0x80 | settings.t140) << 24 | offset << 10 | block.bytes.len() as u32;
-                packet.extend(header.to_be_bytes());
+                    u32::from(0x80 | settings.t140) << 24 | offset << 10 | block.len() as u32;
+                put(&mut rest, &header.to_be_bytes());
             }
-            packet.push(settings.t140);
-            for block in &repeats {
-                packet.extend(&block.bytes);
-            }
+            put(&mut rest, &[settings.t140]);
         }
-        packet.extend(&self.waiting);
-        packet
+        for block in self.repeats(run) {
+            put(&mut rest, block.text());
+        }
+        put(&mut rest, self.waiting().text());
     }
 
     /// The waiting room has gone out as a primary.
     fn sent(&mut self, clock: u64) {
-        let bytes = std::mem::take(&mut self.waiting);
-        self.since = 0;
-        self.latest = clock;
-        self.last_packet = Some(clock);
-        if !bytes.is_empty() {
+        let primary = &mut self.kept[self.room];
+        primary.clock = clock;
+        if !primary.is_empty() {
             self.last_text = Some(clock);
         }
+        self.latest = clock;
+        self.last_packet = Some(clock);
         self.sequence = self.sequence.wrapping_add(1);
-        self.sent.push_back(Block { clock, bytes });
-        if self.sent.len() > usize::from(self.settings.level) {
-            self.sent.pop_front();
-        }
+        self.room = (self.room + 1) % KEPT;
+        self.kept[self.room].clear();
+        self.count = MOST_OLDER.min(self.count + 1);
     }
 }
+
+/// Puts bytes at the front of the space and leaves the rest of it.
+#[inline]
+fn put(rest: &mut &mut [u8], bytes: &[u8]) {
+    let (place, behind) = take(rest).split_at_mut(bytes.len());
+    place.copy_from_slice(bytes);
+    *rest = behind;
+}
+
+/// Blocks no longer kept do not count.
+impl PartialEq for Sender {
+    fn eq(&self, other: &Sender) -> bool {
+        self.settings == other.settings
+            && self.latest == other.latest
+            && self.waiting() == other.waiting()
+            && self.blocks().eq(other.blocks())
+            && self.sequence == other.sequence
+            && self.last_packet == other.last_packet
+            && self.last_text == other.last_text
+    }
+}
+
+impl Eq for Sender {}

@@ -3,7 +3,7 @@
 use independent::read;
 use independent::sender::{Clocked, Sender, Settings};
 
-fn settings(level: u8, buffering: u64) -> Settings {
+fn settings(level: usize, buffering: u64) -> Settings {
     Settings {
         level,
         buffering,
@@ -37,7 +37,7 @@ fn near_the_end_of_the_clock() {
         let (answer, packet) = clock(&mut sender, last + 500);
         assert!(matches!(answer, Clocked::Sent(_)));
         let packet = read(None, 98, 100, &packet).unwrap();
-        assert_eq!(packet.older().len(), usize::from(level.min(1)));
+        assert_eq!(packet.older().len(), level.min(1));
         assert!(packet.older().iter().all(|older| older.offset == 500));
         assert!(!packet.marker);
         assert_eq!(clock(&mut sender, u64::MAX).0, Clocked::Quiet);
@@ -75,7 +75,7 @@ fn more_than_65_536_packets() {
             assert_eq!(u64::from(packet.sequence), (65_533 + k) % 65_536);
             let timestamp = (u64::from(u32::MAX) - 100 + k) % (1 << 32);
             assert_eq!(u64::from(packet.timestamp), timestamp);
-            assert_eq!(packet.older().len() as u64, k.min(level.into()));
+            assert_eq!(packet.older().len() as u64, k.min(level as u64));
             for (older, back) in packet.older().iter().rev().zip(1..) {
                 let letter = [b'a' + ((k - back) % 26) as u8];
                 assert_eq!(packet.block(older), letter);

@@ -53,7 +53,7 @@ impl Ledger {
         let k = sent.len();
         let block = vec![];
         sent.push(Sent { clock, block });
-        let run = run(&sent, self.settings.level.into(), k);
+        let run = run(&sent, self.settings.level, k);
         sent[k - run..k].to_vec()
     }
 
@@ -116,6 +116,28 @@ impl Ledger {
         assert_eq!(packet.primary(), self.waiting_text());
     }
 
+    /// Holds what the sender says of itself against what was accepted and
+    /// sent.
+    fn check_state(&self, sender: &Sender) {
+        let since = self.waiting().first().map_or(0, |offer| offer.0);
+        let sequence = self.settings.sequence.wrapping_add(self.sent.len() as u16);
+        let text = self.sent.iter().rfind(|sent| !sent.block.is_empty());
+        let last_four = self.sent.iter().rev().take(4);
+        let last_four = last_four.map(|sent| (sent.clock, &sent.block[..]));
+        assert_eq!(*sender.settings(), self.settings);
+        assert_eq!(sender.latest(), self.latest);
+        assert_eq!(sender.waiting().text(), self.waiting_text());
+        assert_eq!(sender.waiting().clock, since);
+        assert_eq!(sender.sequence(), sequence);
+        let blocks = sender.blocks().map(|block| (block.clock, block.text()));
+        assert!(blocks.eq(last_four));
+        assert_eq!(
+            sender.last_packet(),
+            self.sent.last().map(|last| last.clock)
+        );
+        assert_eq!(sender.last_text(), text.map(|last| last.clock));
+    }
+
     fn clock(&mut self, clock: u64, space: usize) -> Clocked {
         if clock < self.latest {
             return Clocked::Refused(5);
@@ -132,7 +154,7 @@ impl Ledger {
 }
 
 /// How often each answer was met: by number, 0 accepted, 20 quiet, 21 sent.
-fn list(random: &mut Random, level: u8, met: &mut [usize; 22]) {
+fn list(random: &mut Random, level: usize, met: &mut [usize; 22]) {
     let settings = settings(random, level);
     let mut sender = Sender::open(settings).unwrap();
     let mut ledger = Ledger {
@@ -173,6 +195,7 @@ fn list(random: &mut Random, level: u8, met: &mut [usize; 22]) {
         if refused {
             assert_eq!(sender, before);
         }
+        ledger.check_state(&sender);
         met[usize::from(kind)] += 1;
     }
 }
@@ -182,7 +205,7 @@ fn random_lists_of_calls() {
     let mut met = [0; 22];
     for level in 0..=4 {
         for seed in 0..2000 {
-            let mut random = Random::new(seed << 8 | u64::from(level));
+            let mut random = Random::new(seed << 8 | level as u64);
             list(&mut random, level, &mut met);
         }
     }

@@ -54,8 +54,11 @@ fn t2() {
     let packet = [0x80, 0x62, 0, 0, 0, 0, 0, 0, 0, 0, 0, 0];
     let mut receiver = open();
     let answer = forward(receiver.step(&packet));
-    assert_eq!((answer.text, answer.loss, answer.distance), (&[][..], 0, 0));
-    assert_eq!(answer.blocks, [b""]);
+    assert_eq!(
+        (answer.text(), answer.loss, answer.distance),
+        (&[][..], 0, 0)
+    );
+    assert_eq!(answer.blocks(), [b""]);
     assert_eq!(receiver.expected(), Some(1));
     assert_eq!(receiver.source(), Some(0));
 }
@@ -65,9 +68,9 @@ fn t3() {
     let packet = case("T3");
     let mut receiver = open();
     let answer = forward(receiver.step(&packet));
-    assert_eq!(answer.text, b"A");
-    assert_eq!(answer.blocks, [&b"A"[..], b""]);
-    assert_eq!((answer.loss, answer.distance, answer.older), (0, 0, 1));
+    assert_eq!(answer.text(), b"A");
+    assert_eq!(answer.blocks(), [&b"A"[..], b""]);
+    assert_eq!((answer.loss, answer.distance, answer.older()), (0, 0, 1));
     assert_eq!(receiver.expected(), Some(6));
     let read = independent::read(None, 98, 100, &packet).unwrap();
     assert_eq!(read.older()[0].offset, 300);
@@ -88,8 +91,8 @@ fn t5() {
     let packet = red(9, &[b"g", b"h"], b"i");
     let mut receiver = expecting(6);
     let answer = forward(receiver.step(&packet));
-    assert_eq!((answer.loss, answer.distance, answer.older), (1, 3, 2));
-    assert_eq!(answer.text, b"ghi");
+    assert_eq!((answer.loss, answer.distance, answer.older()), (1, 3, 2));
+    assert_eq!(answer.text(), b"ghi");
     assert_eq!(receiver.expected(), Some(10));
 }
 
@@ -99,7 +102,7 @@ fn t6() {
     let mut receiver = expecting(65_535);
     let answer = forward(receiver.step(&packet));
     assert_eq!(
-        (answer.loss, answer.distance, answer.text),
+        (answer.loss, answer.distance, answer.text()),
         (0, 1, &b"ab"[..])
     );
     assert_eq!(receiver.expected(), Some(1));
@@ -139,23 +142,23 @@ fn t10() {
     for place in PLACES {
         let packet = case(&format!("T10 {place}"));
         let answer = forward(open().step(&packet));
-        assert_eq!(answer.text, [0xf4, 0x8f, 0xbf, 0xbf]);
+        assert_eq!(answer.text(), [0xf4, 0x8f, 0xbf, 0xbf]);
     }
 }
 
 #[test]
 fn run_only_1472_and_1473_bytes() {
     let packet = case("1,472 bytes of T140");
-    assert_eq!(forward(open().step(&packet)).text, [b'a'; 1460]);
+    assert_eq!(forward(open().step(&packet)).text(), [b'a'; 1460]);
     let packet = case("1,472 bytes of RED");
-    assert_eq!(forward(open().step(&packet)).text, [b'a'; 1459]);
+    assert_eq!(forward(open().step(&packet)).text(), [b'a'; 1459]);
     assert_eq!(open().step(&case("1,473 bytes")), Answer::Refused(11));
 }
 
 #[test]
 fn run_only_padding_equal_to_the_payload() {
     let packet = case("padding equal to the payload in T140");
-    assert_eq!(forward(open().step(&packet)).text, b"");
+    assert_eq!(forward(open().step(&packet)).text(), b"");
     let packet = case("padding equal to the payload in RED");
     assert_eq!(open().step(&packet), Answer::Refused(17));
 }
@@ -180,7 +183,8 @@ fn openings_and_the_zero_receiver() {
         assert_eq!(Receiver::open(t140, red), Err(3));
     }
     for (t140, red) in [(96, 127), (127, 96)] {
-        assert!(Receiver::open(t140, red).is_ok());
+        let opened = Receiver::open(t140, red).unwrap();
+        assert_eq!((opened.t140(), opened.red()), (t140, red));
     }
     let mut zero = Receiver::zero();
     for packet in [case("T1"), case("T3"), case("1,473 bytes")] {
@@ -227,15 +231,12 @@ fn every_distance() {
                 let given = if steps > r { r } else { steps };
                 let mut blocks = older[r - given..r].to_vec();
                 blocks.push(b"p");
-                let text = blocks.concat();
-                let whole = Forward {
-                    loss: (steps - given) as u16,
-                    distance: steps as i32,
-                    older: r,
-                    blocks,
-                    text: &text,
-                };
-                assert_eq!(forward(answer), whole);
+                let answer = forward(answer);
+                assert_eq!(usize::from(answer.loss), steps - given);
+                assert_eq!(answer.distance, steps as i32);
+                assert_eq!((answer.older(), answer.wanted), (r, given));
+                assert_eq!(answer.text(), blocks.concat());
+                assert_eq!(answer.blocks(), blocks);
                 assert_eq!(receiver.expected(), Some(sequence.wrapping_add(1)));
             }
             sequence = sequence.wrapping_add(1);
@@ -247,9 +248,11 @@ fn every_distance() {
 fn text_and_blocks_are_parts_of_the_packet() {
     let packet = red(8, &[b"abc", b"", b"de"], b"f");
     let answer = forward(expecting(6).step(&packet));
-    assert_eq!(answer.blocks, [&b""[..], b"de", b"f"]);
+    assert_eq!(answer.blocks(), [&b""[..], b"de", b"f"]);
     let start = packet.len() - 3;
-    assert!(std::ptr::eq(answer.text, &packet[start..]));
-    assert!(std::ptr::eq(answer.blocks[1], &packet[start..start + 2]));
-    assert!(std::ptr::eq(answer.blocks[2], &packet[start + 2..]));
+    assert_eq!(answer.place(), (start, packet.len()));
+    assert!(std::ptr::eq(answer.text(), &packet[start..]));
+    let blocks = answer.blocks();
+    assert!(std::ptr::eq(blocks[1], &packet[start..start + 2]));
+    assert!(std::ptr::eq(blocks[2], &packet[start + 2..]));
 }

@@ -26,7 +26,7 @@ struct Met {
 }
 
 impl Met {
-    fn check(&self, level: u8) {
+    fn check(&self, level: usize) {
         let mut counts = vec![
             self.forward,
             self.late,
@@ -45,7 +45,7 @@ impl Met {
 
 /// Gives the deliveries to a fresh receiver and checks its record.
 fn receive(settings: &Settings, line: &Line, deliveries: &[Delivery], met: &mut Met) {
-    let level = usize::from(settings.level);
+    let level = settings.level;
     let mut receiver = Receiver::open(settings.t140, settings.red).unwrap();
     let mut record = vec![];
     let mut accepted: Vec<usize> = vec![];
@@ -75,19 +75,20 @@ fn receive(settings: &Settings, line: &Line, deliveries: &[Delivery], met: &mut 
             Answer::Forward(forward) => {
                 let ahead = newest.map_or(0, |newest| k - newest - 1);
                 assert_eq!(forward.distance as usize, ahead);
-                assert_eq!(forward.text, forward.blocks.concat());
-                assert_eq!(forward.older, run(&line.sent, level, k));
+                let blocks = forward.blocks();
+                assert_eq!(forward.text(), blocks.concat());
+                assert_eq!(forward.older(), run(&line.sent, level, k));
                 assert_eq!(
                     record.len() - after,
-                    usize::from(forward.loss) + forward.blocks.len()
+                    usize::from(forward.loss) + blocks.len()
                 );
                 met.forward += 1;
                 met.marks += usize::from(forward.loss);
-                met.repeated += forward.blocks.len() - 1;
-                met.unwanted += forward.older + 1 - forward.blocks.len();
-                let empty = forward.blocks.iter().filter(|block| block.is_empty());
+                met.repeated += blocks.len() - 1;
+                met.unwanted += forward.older() + 1 - blocks.len();
+                let empty = blocks.iter().filter(|block| block.is_empty());
                 met.empty += empty.count();
-                met.aged += usize::from(forward.older < level.min(k));
+                met.aged += usize::from(forward.older() < level.min(k));
                 let now = receiver.expected();
                 met.wrapped += usize::from(now < before.expected());
             }
@@ -100,10 +101,10 @@ fn receive(settings: &Settings, line: &Line, deliveries: &[Delivery], met: &mut 
     assert_eq!(record, expected(&line.sent, level, &accepted));
 }
 
-fn random_lines(level: u8, line: fn(&mut Random, &Settings) -> Line) {
+fn random_lines(level: usize, line: fn(&mut Random, &Settings) -> Line) {
     let mut met = Met::default();
     for seed in 0..LISTS {
-        let mut random = Random::new(seed << 8 | u64::from(level));
+        let mut random = Random::new(seed << 8 | level as u64);
         let settings = channel::settings(&mut random, level);
         let line = line(&mut random, &settings);
         let deliveries = channel::deliveries(&mut random, &line.packets);
@@ -142,7 +143,7 @@ fn random_lines_of_another_makers_sender() {
 #[test]
 fn long_lines_to_the_ends_of_the_window() {
     for level in 0..=4 {
-        let mut random = Random::new(u64::from(level));
+        let mut random = Random::new(level as u64);
         let settings = Settings {
             buffering: 1,
             ..channel::settings(&mut random, level)
@@ -157,33 +158,10 @@ fn long_lines_to_the_ends_of_the_window() {
         let line = channel::send(settings, &calls);
         assert_eq!(line.packets.len(), 150_000);
         for _ in 0..20 {
-            let deliveries = jumps(&mut random, &line);
+            let deliveries = channel::jumps(&mut random, &line.packets);
             receive(&settings, &line, &deliveries, &mut Met::default());
         }
     }
-}
-
-fn jumps(random: &mut Random, line: &Line) -> Vec<Delivery> {
-    let mut newest = random.below(50_000);
-    let mut deliveries = vec![];
-    let mut deliver = |number: usize| {
-        deliveries.push(Delivery {
-            number,
-            packet: line.packets[number].clone(),
-            state: State::Whole,
-        })
-    };
-    while newest < line.packets.len() {
-        deliver(newest);
-        let far = random.below(32_768);
-        for back in [0, 1, far, 32_766, 32_767] {
-            if random.once_in(3) && back <= newest {
-                deliver(newest - back);
-            }
-        }
-        newest += random.pick(&[1, 2, 5, 6, far, 32_767, 32_768]).max(1);
-    }
-    deliveries
 }
 
 /// One past either end of the window the record is no longer promised: the

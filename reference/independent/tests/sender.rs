@@ -13,7 +13,7 @@ const USUAL: Settings = Settings {
     source: 0x11223344,
 };
 
-fn open(level: u8, buffering: u64) -> Sender {
+fn open(level: usize, buffering: u64) -> Sender {
     Sender::open(Settings {
         level,
         buffering,
@@ -243,4 +243,47 @@ fn space_one_byte_short_and_bytes_past_the_packet() {
             assert_eq!(space, [0x55; 900]);
         }
     }
+}
+
+/// The last four blocks sent are kept at every level, and nothing else of
+/// what was sent counts.
+#[test]
+fn blocks_kept() {
+    for level in 0..=4 {
+        let mut sender = open(level, 300);
+        assert_eq!(sender.waiting().clock, 0);
+        assert!(sender.waiting().is_empty());
+        assert_eq!(sender.blocks().count(), 0);
+        assert_eq!((sender.last_packet(), sender.last_text()), (None, None));
+        for (k, text) in ["a", "bc", "d", "efg", "h", "ij"].iter().enumerate() {
+            let clock = 1000 * k as u64 + 300;
+            sender.offer(clock - 200, text.as_bytes()).unwrap();
+            assert_eq!(sender.waiting().clock, clock - 200);
+            assert_eq!(sender.waiting().text(), text.as_bytes());
+            sent(&mut sender, clock).unwrap();
+            assert_eq!(sender.waiting().clock, 0);
+            assert_eq!(sender.waiting().len(), 0);
+            assert_eq!(sender.blocks().count(), 4.min(k + 1));
+        }
+        let blocks = sender.blocks().map(|block| (block.clock, block.text()));
+        let kept: [(u64, &[u8]); 4] = [(5300, b"ij"), (4300, b"h"), (3300, b"efg"), (2300, b"d")];
+        assert_eq!(blocks.collect::<Vec<_>>(), kept);
+        assert_eq!(sender.sequence(), 5);
+        assert_eq!(sender.last_text(), Some(5300));
+    }
+    // Two senders that differ in a block no longer kept become equal.
+    let mut senders = [b"x", b"y"].map(|first| {
+        let mut sender = open(0, 1);
+        sender.offer(0, first).unwrap();
+        sent(&mut sender, 0).unwrap();
+        sender
+    });
+    for clock in 1..=4 {
+        assert_ne!(senders[0], senders[1]);
+        for sender in &mut senders {
+            sender.offer(clock, b"z").unwrap();
+            sent(sender, clock).unwrap();
+        }
+    }
+    assert_eq!(senders[0], senders[1]);
 }

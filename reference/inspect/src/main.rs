@@ -6,7 +6,7 @@ use std::fs::File;
 use std::io::{self, BufRead, BufReader, Write};
 use std::process::exit;
 
-use stewpigeon::{meaning, read, Packet};
+use stewpigeon::{read, Packet};
 
 const USAGE: &str = "\
 Usage: inspect [--t140 N] [--red N] [FILE]
@@ -41,7 +41,7 @@ fn options() -> Result<Options, String> {
             "--t140" => options.t140 = payload_type("--t140", arguments.next())?,
             "--red" => options.red = payload_type("--red", arguments.next())?,
             "--help" | "-h" => {
-                println!("{USAGE}");
+                let _ = writeln!(io::stdout(), "{USAGE}");
                 exit(0);
             }
             option if option.starts_with("--") => {
@@ -143,7 +143,7 @@ fn inspect(options: &Options, input: impl BufRead, out: &mut dyn Write) -> Resul
         write!(out, "line {number}: ").map_err(output)?;
         match read(None, options.t140, options.red, &packet) {
             Ok(packet) => describe(out, &packet),
-            Err(refusal) => writeln!(out, "refused {refusal}: {}", meaning(refusal)),
+            Err(refusal) => writeln!(out, "refused {}: {}", refusal.number(), refusal.meaning()),
         }
         .map_err(output)?;
     }

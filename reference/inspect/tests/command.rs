@@ -53,6 +53,21 @@ fn bad_hex_and_bad_usage() {
 }
 
 #[test]
+fn closed_output() {
+    for arguments in [&["../captures/ms2_red_typed1.hex"][..], &["--help"]] {
+        let (reader, writer) = std::io::pipe().unwrap();
+        drop(reader);
+        let output = Command::new(env!("CARGO_BIN_EXE_inspect"))
+            .args(arguments)
+            .stdout(writer)
+            .output()
+            .unwrap();
+        assert_eq!(text(&output.stderr), "");
+        assert_eq!(output.status.code(), Some(0), "{arguments:?}");
+    }
+}
+
+#[test]
 fn help() {
     let output = inspect(&["--help"], "");
     assert_eq!(output.status.code(), Some(0));

@@ -1,0 +1,90 @@
+//! A receiver over one line of packets.
+
+use crate::contest::{add, contest, timed};
+use crate::packets::Packets;
+use compare::say;
+use independent::receiver::{Answer, Receiver};
+use stewpigeon::lent;
+
+fn figure(step: &lent::Step) -> u64 {
+    let distance = step.distance as u64;
+    let blocks = 7 * step.older + 11 * step.given + 13 * step.from + 17 * step.to;
+    let late = 1000 * u64::from(step.late);
+    late + 3 * u64::from(step.loss) + 5u64.wrapping_mul(distance) + blocks as u64
+}
+
+fn proved(packets: &Packets) -> u64 {
+    let mut receiver = lent::Receiver::ZERO;
+    assert_eq!(lent::receiver_open(&mut receiver, 98, 100), 0);
+    let mut step = lent::Step::ZERO;
+    let mut sum = 0;
+    for packet in packets.iter() {
+        let number = lent::receiver_step(&mut receiver, packet, &mut step);
+        sum = add(sum, u64::from(number).wrapping_add(figure(&step)));
+    }
+    sum
+}
+
+#[inline(never)]
+fn independent_step<'a>(receiver: &mut Receiver, packet: &'a [u8]) -> Answer<'a> {
+    receiver.step(packet)
+}
+
+fn independent(packets: &Packets) -> u64 {
+    let mut receiver = Receiver::open(98, 100).expect("good payload types");
+    let mut sum = 0;
+    for packet in packets.iter() {
+        let mut step = lent::Step::ZERO;
+        let mut refused = 0;
+        match independent_step(&mut receiver, packet) {
+            Answer::Refused(number) => refused = u64::from(number),
+            Answer::Late { distance } => {
+                step.late = 1;
+                step.distance = distance as i16;
+            }
+            Answer::Forward(forward) => {
+                step.loss = forward.loss;
+                step.distance = forward.distance as i16;
+                step.older = forward.older();
+                step.given = forward.wanted + 1;
+                (step.from, step.to) = forward.place();
+            }
+        }
+        sum = add(sum, refused.wrapping_add(figure(&step)));
+    }
+    sum
+}
+
+/// How many packets are forward, late and refused.
+fn counts(packets: &Packets) -> [usize; 3] {
+    let mut receiver = Receiver::open(98, 100).expect("good payload types");
+    let mut counts = [0; 3];
+    for packet in packets.iter() {
+        let place = match receiver.step(packet) {
+            Answer::Forward(_) => 0,
+            Answer::Late { .. } => 1,
+            Answer::Refused(_) => 2,
+        };
+        counts[place] += 1;
+    }
+    counts
+}
+
+pub fn steps(packets: &Packets) {
+    let [forward, late, refused] = counts(packets);
+    say!(
+        "RECEIVING: read and step over {} packets of one line, {:.1} bytes on average:\n\
+         60% RED with 2 older blocks of 0 to 6 letters, 20% T140 of 0 to 12, 10% behind\n\
+         losses or late, 10% damaged; {forward} forward, {late} late, {refused} refused\n",
+        packets.count(),
+        packets.average(),
+    );
+    contest(
+        packets.count(),
+        "packet",
+        ("stewpigeon_receiver_step, proved", &|| {
+            timed(proved, packets)
+        }),
+        ("independent Rust", &|| timed(independent, packets)),
+    );
+}

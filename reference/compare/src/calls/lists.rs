@@ -1,0 +1,188 @@
+//! Random lists of calls.
+
+use super::guarded::Lent;
+use super::receivers;
+use super::senders::{self, Space};
+use super::tally::{Answer, Call, Tally};
+use crate::damage::mutate;
+use crate::plan::{Plan, RED, T140};
+use crate::random::Random;
+use independent::channel::{self, settings};
+use independent::receiver::write_marks;
+use independent::sender::Settings;
+use stewpigeon::lent;
+
+/// Every pair of bytes as payload types.
+pub fn receiver_openings(
+    random: &mut Random,
+    calls: usize,
+    tally: &mut Tally,
+) -> Result<(), String> {
+    while tally.calls(Call::ReceiverOpen) < calls {
+        for t140 in 0..=255 {
+            for red in 0..=255 {
+                receivers::Pair::open(random, t140, red, tally)?;
+            }
+        }
+    }
+    Ok(())
+}
+
+/// Settings with one to three parts at or past their bounds.
+fn bad_settings(random: &mut Random) -> Settings {
+    let level = random.below(5);
+    let mut bad = settings(random, level);
+    for _ in 0..random.within(1, 3) {
+        let any = random.number();
+        match random.below(4) {
+            0 => bad.level = random.pick(&[4, 5, 6, 255, 256, 1 << 32, any as usize, usize::MAX]),
+            1 => bad.buffering = random.pick(&[0, 1, 500, 501, 65_836, any, u64::MAX]),
+            2 => bad.t140 = random.pick(&[0, 95, 96, 127, 128, 226, 255, any as u8]),
+            _ => bad.red = random.pick(&[0, 95, 96, 127, 128, 255, bad.t140, any as u8]),
+        }
+    }
+    bad
+}
+
+pub fn sender_openings(random: &mut Random, calls: usize, tally: &mut Tally) -> Result<(), String> {
+    while tally.calls(Call::SenderOpen) < calls {
+        let level = random.below(5);
+        let settings = match random.once_in(2) {
+            true => settings(random, level),
+            false => bad_settings(random),
+        };
+        senders::Pair::open(random, &settings, tally)?;
+    }
+    Ok(())
+}
+
+pub fn marks(random: &mut Random, calls: usize, tally: &mut Tally) -> Result<(), String> {
+    for _ in 0..calls {
+        let length = match random.below(30) {
+            0 => random.below(2000),
+            _ => random.below(40),
+        };
+        let any = random.number() as usize;
+        let near = (length / 3 + random.below(3)).saturating_sub(1);
+        let few = random.below(12);
+        let count = random.pick(&[
+            0,
+            near,
+            few,
+            few,
+            32_767,
+            any,
+            usize::MAX / 3 + 1,
+            usize::MAX,
+        ]);
+        let mut ours = Lent::any(random, length);
+        let mut theirs = ours.clone();
+        let written = lent::write_marks(count, ours.bytes_mut());
+        let wanted = write_marks(count, theirs.bytes_mut());
+        if written != wanted || ours != theirs {
+            return Err(format!(
+                "{count} marks into {length} bytes\nlibrary:     {written} {:02x?}\n\
+                 independent: {wanted} {:02x?}",
+                ours.bytes(),
+                theirs.bytes()
+            ));
+        }
+        let kind = if written == 0 { "none" } else { "some" };
+        tally.add(Call::WriteMarks, Answer::Done(kind));
+        tally.meet("marks that fill their space", {
+            written > 0 && 3 * written == length
+        });
+        tally.meet("marks with a rest of the space", {
+            written == length / 3 && 3 * written < length
+        });
+    }
+    Ok(())
+}
+
+/// A packet for a receiver that expects this number.
+fn packet(random: &mut Random, source: u32, expected: u16) -> Vec<u8> {
+    let mut plan = match random.below(8) {
+        0 => Plan::t140(random),
+        1 => Plan::good(random),
+        few => Plan::small_red(random, few % 5),
+    };
+    let any = random.number() as u16;
+    let near = random.below(8) as u16;
+    let far = random.pick(&[32_766, 32_767, 32_768, 32_769, 65_534, 65_535]);
+    let distance = random.pick(&[0, 0, 0, near, near, any, far]);
+    plan.sequence = expected.wrapping_add(distance);
+    plan.source = source;
+    if random.once_in(20) {
+        plan.source ^= 1 << random.below(32);
+    }
+    let packet = plan.bytes();
+    match random.once_in(6) {
+        true => mutate(random, packet),
+        false => packet,
+    }
+}
+
+/// Lists of packets, good and bad, near and far, to receivers also of bad
+/// payload types.
+pub fn packets(random: &mut Random, calls: usize, tally: &mut Tally) -> Result<(), String> {
+    let start = tally.calls(Call::Step);
+    while tally.calls(Call::Step) < start + calls {
+        let (t140, red) = match random.below(20) {
+            0 => (RED, T140),
+            1 => (T140, random.pick(&[T140, 95, 128])),
+            _ => (T140, RED),
+        };
+        let mut pair = receivers::Pair::open(random, t140, red, tally)?;
+        let source = random.number() as u32;
+        let first = random.number() as u16;
+        for place in 0..random.within(1, 60) {
+            let expected = pair.expected().unwrap_or(first);
+            let packet = packet(random, source, expected);
+            let answer = pair.step(random, &packet, tally);
+            answer
+                .map_err(|difference| format!("packet {place} of a list: {difference}"))?
+                .ok();
+        }
+    }
+    Ok(())
+}
+
+/// Gives a list of calls to a pair of senders.
+fn sender_list(random: &mut Random, settings: &Settings, tally: &mut Tally) -> Result<(), String> {
+    let mut pair = senders::Pair::open(random, settings, tally)?;
+    let count = random.within(1, 120);
+    let buffering = settings.buffering.clamp(1, 500);
+    for (place, call) in channel::calls(random, buffering, count)
+        .into_iter()
+        .enumerate()
+    {
+        let answer = match call {
+            channel::Call::Offer { clock, text } => {
+                pair.offer(random, clock, &text, tally).map(|_| ())
+            }
+            channel::Call::Clock { clock, .. } => {
+                let space = Space::any(random);
+                pair.clock(random, clock, space, tally).map(|_| ())
+            }
+        };
+        answer.map_err(|difference| format!("call {place} of {settings:?}: {difference}"))?;
+    }
+    Ok(())
+}
+
+pub fn sender_calls(random: &mut Random, calls: usize, tally: &mut Tally) -> Result<(), String> {
+    let start = tally.calls(Call::Offer).max(tally.calls(Call::Clock));
+    let met = |tally: &Tally| tally.calls(Call::Offer).min(tally.calls(Call::Clock));
+    while met(tally) < start + calls {
+        let level = random.below(5);
+        let mut settings = settings(random, level);
+        if random.once_in(50) {
+            settings = bad_settings(random);
+        }
+        if random.once_in(4) {
+            settings.buffering = random.within(1, 500) as u64;
+        }
+        sender_list(random, &settings, tally)?;
+    }
+    Ok(())
+}

@@ -1,0 +1,251 @@
+//! Named cases of the receiver and the mark writer.
+
+use super::super::receivers::{Pair, Stepped};
+use super::{same, Case, Given};
+use crate::captures;
+use independent::{paper, read};
+use stewpigeon::lent;
+
+pub const CASES: [Case; 18] = [
+    ("T1: no bytes", t1),
+    ("T2: 80 62 and ten zeros", t2),
+    ("T3, T4: the paper's packet, and again", t3_t4),
+    ("T5: expected 6, sequence 9, r 2", t5),
+    ("T6: expected 65,535, sequence 0, r 1", t6),
+    ("T7: expected 6, sequence 32,773, r 0", t7),
+    ("T8: expected 6, sequence 32,774", t8),
+    ("T9: ED A0 80", t9),
+    ("T10: F4 8F BF BF", t10),
+    ("1,472 and 1,473 bytes", sizes),
+    ("padding equal to the payload", padding),
+    ("C0 80 and F4 90 80 80 in a packet", bad_letters),
+    ("every reader's case on a fresh receiver", all_of_the_paper),
+    ("a refused opening, and the zero receiver", zero_receiver),
+    ("another source: 16", other_source),
+    ("every distance, 0 to 4 older blocks", every_distance),
+    ("marks into 0 to 10 bytes", marks),
+    ("the captures", captured),
+];
+
+fn open(given: &mut Given<'_>) -> Result<Pair, String> {
+    Pair::open(given.random, 98, 100, given.tally)
+}
+
+fn step(given: &mut Given<'_>, pair: &mut Pair, packet: &[u8]) -> Result<Stepped, String> {
+    pair.step(given.random, packet, given.tally)
+}
+
+/// The answer of a fresh receiver.
+fn fresh(given: &mut Given<'_>, packet: &[u8]) -> Result<Stepped, String> {
+    let mut pair = open(given)?;
+    step(given, &mut pair, packet)
+}
+
+/// A RED packet; every offset is 0.
+fn red(sequence: u16, older: &[&[u8]], primary: &[u8]) -> Vec<u8> {
+    let mut packet = vec![0x80, 0x64];
+    packet.extend(sequence.to_be_bytes());
+    packet.extend([0, 0, 0, 0, 0x11, 0x22, 0x33, 0x44]);
+    for block in older {
+        packet.extend([0xe2, 0, 0, block.len() as u8]);
+    }
+    packet.push(0x62);
+    packet.extend(older.concat());
+    packet.extend(primary);
+    packet
+}
+
+/// A receiver that expects this number next.
+fn expecting(given: &mut Given<'_>, number: u16) -> Result<Pair, String> {
+    let mut pair = open(given)?;
+    let packet = red(number.wrapping_sub(1), &[], b"");
+    step(given, &mut pair, &packet)?.map_err(|number| format!("{number}"))?;
+    same(pair.expected(), Some(number))?;
+    Ok(pair)
+}
+
+fn case(name: &str) -> Vec<u8> {
+    let mut cases = paper::cases().into_iter();
+    let case = cases.find(|case| case.name == name);
+    case.expect("a case of the paper").packet
+}
+
+/// Loss, distance, text and the number expected next.
+type Seen = Result<(u16, i16, Vec<u8>, Option<u16>), u8>;
+
+fn seen(given: &mut Given<'_>, pair: &mut Pair, packet: &[u8]) -> Result<Seen, String> {
+    let answer = step(given, pair, packet)?;
+    let text = |step: &lent::Step| packet[step.from..step.to].to_vec();
+    Ok(answer.map(|step| (step.loss, step.distance, text(&step), pair.expected())))
+}
+
+fn t1(given: &mut Given<'_>) -> Result<(), String> {
+    same(fresh(given, &[])?, Err(10))
+}
+
+fn t2(given: &mut Given<'_>) -> Result<(), String> {
+    let mut packet = vec![0x80, 0x62];
+    packet.extend([0; 10]);
+    let mut pair = open(given)?;
+    let seen = seen(given, &mut pair, &packet)?;
+    same(seen, Ok((0, 0, vec![], Some(1))))
+}
+
+fn t3_t4(given: &mut Given<'_>) -> Result<(), String> {
+    let packet = case("T3");
+    let mut pair = open(given)?;
+    let first = seen(given, &mut pair, &packet)?;
+    same(first, Ok((0, 0, b"A".to_vec(), Some(6))))?;
+    let read = read(None, 98, 100, &packet).map_err(|number| format!("{number}"))?;
+    same(read.older()[0].offset, 300)?;
+    let again = seen(given, &mut pair, &packet)?;
+    same(again, Ok((0, -1, vec![], Some(6))))
+}
+
+fn t5(given: &mut Given<'_>) -> Result<(), String> {
+    let mut pair = expecting(given, 6)?;
+    let seen = seen(given, &mut pair, &red(9, &[b"g", b"h"], b"i"))?;
+    same(seen, Ok((1, 3, b"ghi".to_vec(), Some(10))))
+}
+
+fn t6(given: &mut Given<'_>) -> Result<(), String> {
+    let mut pair = expecting(given, 65_535)?;
+    let seen = seen(given, &mut pair, &red(0, &[b"a"], b"b"))?;
+    same(seen, Ok((0, 1, b"ab".to_vec(), Some(1))))
+}
+
+fn t7(given: &mut Given<'_>) -> Result<(), String> {
+    let mut pair = expecting(given, 6)?;
+    let seen = seen(given, &mut pair, &red(32_773, &[], b"x"))?;
+    same(seen, Ok((32_767, 32_767, b"x".to_vec(), Some(32_774))))
+}
+
+fn t8(given: &mut Given<'_>) -> Result<(), String> {
+    let mut pair = expecting(given, 6)?;
+    let seen = seen(given, &mut pair, &red(32_774, &[], b"x"))?;
+    same(seen, Ok((0, -32_768, vec![], Some(6))))
+}
+
+const PLACES: [&str; 3] = ["in T140", "in a primary", "in an older block"];
+
+/// Bytes of this name, in each place of a packet: their text or refusal.
+fn letters(given: &mut Given<'_>, name: &str, due: Result<&[u8], u8>) -> Result<(), String> {
+    for place in PLACES {
+        let packet = case(&format!("{name} {place}"));
+        let answer = fresh(given, &packet)?;
+        same(answer.map(|step| &packet[step.from..step.to]), due)?;
+    }
+    Ok(())
+}
+
+fn t9(given: &mut Given<'_>) -> Result<(), String> {
+    letters(given, "T9", Err(21))
+}
+
+fn t10(given: &mut Given<'_>) -> Result<(), String> {
+    letters(given, "T10", Ok(&[0xf4, 0x8f, 0xbf, 0xbf]))
+}
+
+fn bad_letters(given: &mut Given<'_>) -> Result<(), String> {
+    letters(given, "C0 80", Err(21))?;
+    letters(given, "F4 90 80 80", Err(21))
+}
+
+fn length(answer: Stepped) -> Result<usize, u8> {
+    answer.map(|step| step.to - step.from)
+}
+
+fn sizes(given: &mut Given<'_>) -> Result<(), String> {
+    for (name, due) in [
+        ("1,472 bytes of T140", Ok(1460)),
+        ("1,472 bytes of RED", Ok(1459)),
+        ("1,473 bytes", Err(11)),
+    ] {
+        same(length(fresh(given, &case(name))?), due)?;
+    }
+    Ok(())
+}
+
+fn padding(given: &mut Given<'_>) -> Result<(), String> {
+    let packet = case("padding equal to the payload in T140");
+    same(length(fresh(given, &packet)?), Ok(0))?;
+    let packet = case("padding equal to the payload in RED");
+    same(length(fresh(given, &packet)?), Err(17))
+}
+
+fn all_of_the_paper(given: &mut Given<'_>) -> Result<(), String> {
+    for case in paper::cases() {
+        if case.expected.is_some() {
+            continue;
+        }
+        let mut pair = Pair::open(given.random, case.t140, case.red, given.tally)?;
+        let answer = step(given, &mut pair, &case.packet)?;
+        let due = case.numbers();
+        same(answer.map(|step| step.to as u64), due.map(|due| due[6]))?;
+    }
+    Ok(())
+}
+
+fn zero_receiver(given: &mut Given<'_>) -> Result<(), String> {
+    for (t140, red) in [(95, 100), (128, 100), (98, 95), (98, 128), (98, 98), (0, 0)] {
+        let mut zero = Pair::open(given.random, t140, red, given.tally)?;
+        for packet in [case("T1"), case("T3"), case("1,473 bytes")] {
+            same(step(given, &mut zero, &packet)?, Err(3))?;
+            same(zero.record(), lent::Receiver::ZERO)?;
+        }
+    }
+    Ok(())
+}
+
+fn other_source(given: &mut Given<'_>) -> Result<(), String> {
+    let mut pair = expecting(given, 6)?;
+    for sequence in [5, 6, 7, 40_000] {
+        let mut packet = red(sequence, &[], b"x");
+        packet[11] ^= 1;
+        same(step(given, &mut pair, &packet)?, Err(16))?;
+    }
+    Ok(())
+}
+
+/// Each receiver is moved by the packet, so each distance has its own.
+fn every_distance(given: &mut Given<'_>) -> Result<(), String> {
+    let older: [&[u8]; 4] = [b"1", b"", "€".as_bytes(), b"4"];
+    for d in (0..12).chain(32_760..32_780).chain(65_525..65_536) {
+        for r in 0..=4 {
+            let mut pair = expecting(given, 65_530)?;
+            let sequence = (65_530 + d) % 65_536;
+            let packet = red(sequence as u16, &older[..r], b"p");
+            let answer = step(given, &mut pair, &packet)?;
+            let wanted = r.min(d as usize);
+            let due = match d {
+                0..=32_767 => (d - wanted as u32, d as i32, wanted + 1),
+                _ => (0, d as i32 - 65_536, 0),
+            };
+            let seen = |step: lent::Step| (step.loss.into(), step.distance.into(), step.given);
+            same(answer.map(seen), Ok(due))?;
+        }
+    }
+    Ok(())
+}
+
+fn marks(_: &mut Given<'_>) -> Result<(), String> {
+    for length in 0..=10 {
+        for count in [0, 1, 2, 3, 4, 32_767, usize::MAX] {
+            let mut space = vec![0x55; length];
+            let written = lent::write_marks(count, &mut space);
+            same(written, count.min(length / 3))?;
+            let mut due = [0xef, 0xbf, 0xbd].repeat(written);
+            due.resize(length, 0x55);
+            same(space, due)?;
+        }
+    }
+    Ok(())
+}
+
+fn captured(given: &mut Given<'_>) -> Result<(), String> {
+    let mut pair = open(given)?;
+    for packet in captures::all() {
+        step(given, &mut pair, &packet)?.ok();
+    }
+    Ok(())
+}

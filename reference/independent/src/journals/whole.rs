@@ -1,0 +1,200 @@
+//! Journals that are not broken.
+
+use super::{case, header, marks, open, red, t140, Case};
+use crate::recorder::Recorder;
+
+pub fn cases() -> Vec<Case> {
+    [openings(), lengths(), times(), losses(), late_and_refused()]
+        .into_iter()
+        .flatten()
+        .collect()
+}
+
+const NOTHING: &str = "0 late 0 lost 0 refused 0";
+const ONE: &str = "1 late 0 lost 0 refused 0";
+const TWO: &str = "2 late 0 lost 0 refused 0";
+const ONE_REFUSED: &str = "0 late 0 lost 0 refused 1";
+
+fn openings() -> Vec<Case> {
+    let types = |t140, red| Recorder::open(t140, red).end();
+    // `a` is 97: with RED 98 it is the header of the primary `b`.
+    let other = Recorder::open(97, 98).packet(&t140(1, "ab"));
+    let mut after = open().packet(&t140(1, "A")).end();
+    after.extend([0, 9, 1, 98, 98]);
+    vec![
+        case("open-end", open().end(), "", NOTHING),
+        case("types-96-127", types(96, 127), "", NOTHING),
+        case("types-127-96", types(127, 96), "", NOTHING),
+        case("red-of-98", other.end(), "b", ONE),
+        case("bytes-after-end", after, "A", ONE),
+        case("journal-after-end", super::WHOLE.repeat(2), "A", ONE),
+    ]
+}
+
+fn lengths() -> Vec<Case> {
+    let of = |length: usize| {
+        let mut packet = header(98, 1);
+        packet.resize(length, b'a');
+        open().packet(&packet).end()
+    };
+    let letters = |length: usize| "a".repeat(length - 12);
+    let empty = open().packet(&[]).packet(&t140(1, "A")).packet(&[]);
+    vec![
+        case("length-0", of(0), "", ONE_REFUSED),
+        case(
+            "length-0-twice",
+            empty.end(),
+            "A",
+            "1 late 0 lost 0 refused 2",
+        ),
+        case("length-1", of(1), "", ONE_REFUSED),
+        case("length-11", of(11), "", ONE_REFUSED),
+        case("length-12", of(12), "", ONE),
+        case("length-15", of(15), letters(15), ONE),
+        case("length-16", of(16), letters(16), ONE),
+        case("length-17", of(17), letters(17), ONE),
+        case("length-32", of(32), letters(32), ONE),
+        case("length-1471", of(1471), letters(1471), ONE),
+        case("length-1472", of(1472), letters(1472), ONE),
+        case("length-1473", of(1473), "", ONE_REFUSED),
+        case("length-1488", of(1488), "", ONE_REFUSED),
+    ]
+}
+
+fn times() -> Vec<Case> {
+    let (a, b) = (t140(1, "A"), t140(2, "B"));
+    let before = Recorder::default().time(0).and_open(98, 100);
+    let everywhere = Recorder::default()
+        .time(0)
+        .time(u64::MAX)
+        .and_open(98, 100)
+        .time(0x0001_6264_0003_0405)
+        .packet(&a)
+        .time(5)
+        .time(1)
+        .packet(&b)
+        .time(0x0303_0303_0303_0303);
+    vec![
+        case("time-open-end", before.end(), "", NOTHING),
+        case(
+            "time-before-packet",
+            open().time(7).packet(&a).end(),
+            "A",
+            ONE,
+        ),
+        case(
+            "time-after-packet",
+            open().packet(&a).time(7).end(),
+            "A",
+            ONE,
+        ),
+        case("times-everywhere", everywhere.end(), "AB", TWO),
+    ]
+}
+
+fn losses() -> Vec<Case> {
+    let two = |first: Vec<u8>, second: Vec<u8>| open().packet(&first).packet(&second).end();
+    let (first, a) = (t140(5, "-"), t140(5, "A"));
+    let none = two(first.clone(), red(6, &["x", "-"], "B"));
+    let covered = two(first.clone(), red(8, &["x", "y"], "B"));
+    let more = two(first.clone(), red(8, &["w", "-", "x", "y"], "B"));
+    let partly = two(first.clone(), red(9, &["x", "y"], "B"));
+    let empty = two(first.clone(), red(8, &["", ""], ""));
+    let wrap = two(t140(65_534, "-"), t140(1, "B"));
+    let wrap_covered = two(t140(65_534, "-"), red(0, &["x"], "B"));
+    let most = two(a.clone(), t140(32_773, "B"));
+    let most_red = two(a.clone(), red(32_773, &["x"], "B"));
+    let twice = open().packet(&a).packet(&t140(32_773, "B"));
+    let twice = twice.packet(&t140(5, "C")).end();
+    let older = open().packet(&red(5, &["a", "", "b", "c"], "d")).end();
+    let spelled = two(t140(5, "\u{fffd}\n"), t140(7, "\u{fffd}"));
+    vec![
+        case("repeats-known", none, "-B", TWO),
+        case("repeats-fill-loss", covered, "-xyB", TWO),
+        case("repeats-more-than-loss", more, "-xyB", TWO),
+        case(
+            "repeats-fewer-than-loss",
+            partly,
+            "-\u{fffd}xyB",
+            "2 late 0 lost 1 refused 0",
+        ),
+        case("repeats-empty", empty, "-", TWO),
+        case(
+            "loss-over-wrap",
+            wrap,
+            "-\u{fffd}\u{fffd}B",
+            "2 late 0 lost 2 refused 0",
+        ),
+        case("repeat-over-wrap", wrap_covered, "-xB", TWO),
+        case(
+            "loss-32767",
+            most,
+            ["A", &marks(32_767), "B"].concat(),
+            "2 late 0 lost 32767 refused 0",
+        ),
+        case(
+            "loss-32766-and-repeat",
+            most_red,
+            ["A", &marks(32_766), "xB"].concat(),
+            "2 late 0 lost 32766 refused 0",
+        ),
+        case(
+            "loss-32767-twice",
+            twice,
+            ["A", &marks(32_767), "B", &marks(32_767), "C"].concat(),
+            "3 late 0 lost 65534 refused 0",
+        ),
+        case("first-packet-all-blocks", older, "abcd", ONE),
+        case(
+            "mark-in-text",
+            spelled,
+            "\u{fffd}\n\u{fffd}\u{fffd}",
+            "2 late 0 lost 1 refused 0",
+        ),
+    ]
+}
+
+fn late_and_refused() -> Vec<Case> {
+    let a = t140(5, "A");
+    let after = |packet: &[u8]| open().packet(&a).packet(packet).packet(&t140(6, "B"));
+    let mut other = t140(6, "x");
+    other[11] ^= 1;
+    let mut version = t140(6, "x");
+    version[0] = 0x40;
+    // One byte of the first block's letter goes to the second block.
+    let mut split = red(6, &["\u{e9}", "x"], "y");
+    (split[15], split[19]) = (1, 2);
+    let refused_first = open().packet(&other[..11]).packet(&a).packet(&other);
+    let one_refused = "2 late 0 lost 0 refused 1";
+    let one_late = "2 late 1 lost 0 refused 0";
+    vec![
+        case("copy", after(&a).end(), "AB", one_late),
+        case(
+            "late-32768",
+            after(&t140(32_774, "x")).end(),
+            "AB",
+            one_late,
+        ),
+        case(
+            "late-with-repeats",
+            after(&red(4, &["x"], "y")).end(),
+            "AB",
+            one_late,
+        ),
+        case("other-source", after(&other).end(), "AB", one_refused),
+        case("wrong-version", after(&version).end(), "AB", one_refused),
+        case("too-short", after(&a[..11]).end(), "AB", one_refused),
+        case(
+            "letter-split-between-blocks",
+            after(&split).end(),
+            "AB",
+            one_refused,
+        ),
+        case(
+            "refused-first",
+            refused_first.end(),
+            "A",
+            "1 late 0 lost 0 refused 2",
+        ),
+    ]
+}

@@ -1,0 +1,126 @@
+use stewpigeon::{read, Packet, Receiver, Refusal, Sender, Settings, Step};
+
+const SETTINGS: Settings = Settings {
+    level: 2,
+    buffering: Settings::BUFFERING,
+    t140: 98,
+    red: 100,
+    sequence: 65_535,
+    timestamp: 1000,
+    source: 7,
+};
+
+fn open(settings: Settings) -> Sender {
+    Sender::open(settings).unwrap()
+}
+
+/// The packet due at this clock, copied.
+fn sent(sender: &mut Sender, clock: u64) -> Vec<u8> {
+    let mut space = [0; Sender::LONGEST_PACKET];
+    let packet = sender.clock(clock, &mut space).unwrap();
+    packet.expect("a packet is due").to_vec()
+}
+
+#[test]
+fn refused_openings() {
+    let refusal = |settings| Sender::open(settings).err();
+    let level = Sender::LEVEL + 1;
+    let bad = Settings { level, ..SETTINGS };
+    assert_eq!(refusal(bad), Some(Refusal::Level));
+    for buffering in [0, Settings::LONGEST_BUFFERING + 1] {
+        let bad = Settings {
+            buffering,
+            ..SETTINGS
+        };
+        assert_eq!(refusal(bad), Some(Refusal::Buffering));
+    }
+    let bad = Settings {
+        t140: 95,
+        ..SETTINGS
+    };
+    assert_eq!(refusal(bad), Some(Refusal::PayloadTypes));
+    assert_eq!(Receiver::open(98, 128), Err(Refusal::PayloadTypes));
+}
+
+#[test]
+fn text_through_a_line_that_loses_a_packet() {
+    let mut sender = open(SETTINGS);
+    let mut receiver = Receiver::open(98, 100).unwrap();
+    assert_eq!((receiver.source(), receiver.expected()), (None, None));
+    sender.offer(0, b"A").unwrap();
+    let first = sent(&mut sender, 0);
+    sender.offer(10, b"B").unwrap();
+    sent(&mut sender, 300);
+    sender.offer(310, b"C").unwrap();
+    let third = sent(&mut sender, 600);
+
+    let step = Step::Forward {
+        loss: 0,
+        distance: 0,
+        older: 0,
+        given: 1,
+        text: b"A",
+    };
+    assert_eq!(receiver.step(&first), Ok(step));
+    let Ok(Step::Forward {
+        loss,
+        distance,
+        older,
+        given,
+        text,
+    }) = receiver.step(&third)
+    else {
+        panic!("the third packet is forward");
+    };
+    assert_eq!((loss, distance, older, given), (0, 1, 2, 2));
+    assert_eq!(text, b"BC");
+    // It is the packet's own bytes.
+    assert!(std::ptr::eq(text, &third[third.len() - 2..]));
+    assert_eq!(receiver.step(&third), Ok(Step::Late { distance: -1 }));
+    assert_eq!((receiver.source(), receiver.expected()), (Some(7), Some(2)));
+}
+
+#[test]
+fn refusals_change_nothing() {
+    let mut sender = open(SETTINGS);
+    sender.offer(5, b"A").unwrap();
+    let before = sender.clone();
+    let long = [b'a'; Sender::ROOM];
+    for (clock, text, refusal) in [
+        (4, &b"B"[..], Refusal::Clock),
+        (5, b"", Refusal::NoText),
+        (5, &[0xff], Refusal::Text),
+        (5, &long, Refusal::WaitingRoom),
+    ] {
+        assert_eq!(sender.offer(clock, text), Err(refusal));
+    }
+    assert_eq!(sender.clock(9, &mut [0; 13]), Err(Refusal::Space));
+    assert_eq!(sender.clock(4, &mut [0; 99]), Err(Refusal::Clock));
+    assert_eq!(sender, before);
+
+    let mut receiver = Receiver::open(98, 100).unwrap();
+    let before = receiver.clone();
+    let long = [0x80; Packet::LONGEST + 1];
+    assert_eq!(receiver.step(&long), Err(Refusal::Long));
+    let short = &long[..Packet::SHORTEST - 1];
+    assert_eq!(receiver.step(short), Err(Refusal::Short));
+    assert_eq!(receiver, before);
+}
+
+#[test]
+fn the_longest_packet() {
+    let mut sender = open(Settings {
+        level: Sender::LEVEL,
+        buffering: 1,
+        ..SETTINGS
+    });
+    let mut packet = vec![];
+    for clock in 0..6 {
+        sender.offer(clock, &[b'a'; Sender::ROOM]).unwrap();
+        packet = sent(&mut sender, clock);
+    }
+    assert_eq!(packet.len(), Sender::LONGEST_PACKET);
+    let read = read(Some(7), 98, 100, &packet).unwrap();
+    assert_eq!(read.older().len(), Sender::LEVEL);
+    assert_eq!(sender.settings().level, Sender::LEVEL);
+}

@@ -1,0 +1,89 @@
+//! Random journals, as lists of records.
+
+use independent::channel::{calls, deliveries, send, settings};
+use independent::journal::{END, LONGEST, OPEN, PACKET, TIME};
+use independent::maker;
+use independent::random::Random;
+use independent::recorder::Recorder;
+
+/// A journal's records: each of them, and a packet with all its pieces as
+/// one.
+pub type Draft = Vec<Vec<u8>>;
+
+/// A good journal of some of a line's packets, with times.
+pub fn draft(random: &mut Random, packets: usize) -> Draft {
+    let level = random.below(5);
+    let settings = settings(random, level);
+    let line = match random.once_in(2) {
+        true => maker::line(random, &settings, packets),
+        false => send(settings, &calls(random, settings.buffering, 4 * packets)),
+    };
+    let mut draft = vec![];
+    times(random, &mut draft);
+    draft.push(vec![OPEN, settings.t140, settings.red]);
+    for mut delivery in deliveries(random, &line.packets) {
+        times(random, &mut draft);
+        jump(random, &mut delivery.packet);
+        delivery.packet.truncate(LONGEST);
+        draft.push(packet(&delivery.packet));
+    }
+    times(random, &mut draft);
+    draft.push(vec![END]);
+    draft
+}
+
+/// A packet's records.
+pub fn packet(packet: &[u8]) -> Vec<u8> {
+    Recorder::default().packet(packet).bytes
+}
+
+pub fn time(random: &mut Random) -> Vec<u8> {
+    let mut record = vec![TIME];
+    let small = random.once_in(2);
+    record.extend((0..8).map(|_| match small {
+        true => random.below(5) as u8,
+        false => random.byte(),
+    }));
+    record
+}
+
+fn times(random: &mut Random, draft: &mut Draft) {
+    while random.once_in(3) {
+        draft.push(time(random));
+    }
+}
+
+/// Now and then, another sequence number, often near the half circle.
+fn jump(random: &mut Random, packet: &mut [u8]) {
+    if !random.once_in(150) {
+        return;
+    }
+    if let Some(sequence) = packet.first_chunk_mut::<4>() {
+        let now = u16::from_be_bytes([sequence[2], sequence[3]]);
+        let any = random.number() as u16;
+        let by = random.pick(&[1, 5, 32_766, 32_767, 32_768, 32_769, any]);
+        [sequence[2], sequence[3]] = now.wrapping_add(by).to_be_bytes();
+    }
+}
+
+/// Bytes that are often kinds, payload types and lengths.
+pub fn noise(random: &mut Random) -> Vec<u8> {
+    let length = random.below(80);
+    if random.once_in(4) {
+        return random.bytes(length);
+    }
+    let mut journal = match random.once_in(3) {
+        true => vec![],
+        false => vec![OPEN, 98, 100],
+    };
+    for _ in 0..length {
+        let any = random.byte();
+        journal.push(random.pick(&[0, 0, 0, 1, 2, 2, 3, 3, 4, 16, 98, 100, any]));
+    }
+    journal
+}
+
+/// Whether a record of a draft is a packet with bytes.
+pub fn has_pieces(record: &[u8]) -> bool {
+    record.first() == Some(&PACKET) && record.len() > 3
+}

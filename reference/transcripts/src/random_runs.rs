@@ -1,0 +1,174 @@
+//! Random journals, whole and broken, given to the program in every manner.
+
+use std::collections::BTreeMap;
+use std::fmt::{self, Display, Formatter};
+
+use independent::journal::{self, Break, Finish};
+use independent::random::Random;
+use independent::transcript::{text, transcript};
+
+use crate::check::{check, Difference, Feeding};
+use crate::damage::{change, follow, spoil};
+use crate::draft::{draft, noise};
+use crate::program::Program;
+
+/// Of so many journals at least, every kind must have been met.
+const ENOUGH: usize = 2000;
+
+/// What was met.
+#[derive(Default)]
+pub struct Met {
+    kinds: BTreeMap<&'static str, usize>,
+}
+
+impl Met {
+    fn add(&mut self, kind: &'static str) {
+        *self.kinds.entry(kind).or_default() += 1;
+    }
+
+    fn journal(&mut self, journal: &journal::Journal) {
+        self.add(match journal.finish {
+            Finish::End => "whole",
+            Finish::Broken(Break::Early) => "broken by an early end",
+            Finish::Broken(Break::Kind) => "broken by a kind",
+            Finish::Broken(Break::Types) => "broken by payload types",
+            Finish::Broken(Break::Length) => "broken by a length",
+            Finish::Broken(Break::Filling) => "broken by filling",
+        });
+        let (text, counts) = text(journal);
+        let broken = journal.finish != Finish::End;
+        for (kind, met) in [
+            ("broken after text", broken && !text.is_empty()),
+            ("with text", counts.packets > 0),
+            ("with a late packet", counts.late > 0),
+            ("with a loss", counts.lost > 0),
+            ("with a refused packet", counts.refused > 0),
+        ] {
+            if met {
+                self.add(kind);
+            }
+        }
+    }
+
+    fn missing(&self) -> Option<&'static str> {
+        KINDS
+            .into_iter()
+            .find(|kind| !self.kinds.contains_key(kind))
+    }
+}
+
+const KINDS: [&str; 15] = [
+    "whole",
+    "broken by an early end",
+    "broken by a kind",
+    "broken by payload types",
+    "broken by a length",
+    "broken by filling",
+    "broken after text",
+    "with text",
+    "with a late packet",
+    "with a loss",
+    "with a refused packet",
+    "fed in pieces",
+    "fed without an end of input",
+    "fed up to the end or the break, without an end of input",
+    "fed as a file",
+];
+
+/// A line for each kind.
+impl Display for Met {
+    fn fmt(&self, f: &mut Formatter<'_>) -> fmt::Result {
+        let mut kinds = self.kinds.iter();
+        kinds.try_for_each(|(kind, count)| write!(f, "\n  {kind}: {count}"))
+    }
+}
+
+/// Gives random journals to the program, some of them long.
+pub fn check_all(program: &Program, seed: u64, count: usize) -> Result<Met, Difference> {
+    let mut random = Random::new(seed);
+    let mut met = Met::default();
+    for number in 0..count {
+        let checked = match number % 4000 {
+            3999 => long(program, &mut random, &mut met),
+            _ => short(program, &mut random, &mut met),
+        };
+        checked.map_err(|difference| Difference {
+            what: format!(
+                "random journal {number} of seed {seed}:\n{}",
+                difference.what
+            ),
+            ..difference
+        })?;
+    }
+    match met.missing() {
+        Some(kind) if count >= ENOUGH => Err(format!("no journal was {kind}").into()),
+        _ => Ok(met),
+    }
+}
+
+/// A good journal of many packets.
+fn long(program: &Program, random: &mut Random, met: &mut Met) -> Result<(), Difference> {
+    let journal = draft(random, 20_000).concat();
+    met.journal(&journal::read(&journal));
+    met.add("long");
+    check(program, &journal, &Feeding::File, &transcript(&journal))
+}
+
+fn short(program: &Program, random: &mut Random, met: &mut Met) -> Result<(), Difference> {
+    let mut journal = journal(random);
+    let read = journal::read(&journal);
+    let printed = transcript(&journal);
+    let feeding = feeding(random, &read, journal.len());
+    met.journal(&read);
+    match &feeding {
+        Feeding::Whole => {}
+        Feeding::File => met.add("fed as a file"),
+        Feeding::Pieces { .. } => met.add("fed in pieces"),
+        Feeding::StaysOpen => met.add("fed without an end of input"),
+    }
+    if feeding == Feeding::StaysOpen && random.once_in(2) {
+        journal.truncate(read.used);
+        met.add("fed up to the end or the break, without an end of input");
+    }
+    check(program, &journal, &feeding, &printed)
+}
+
+/// A journal: two of five are good, the others are damaged or noise.
+fn journal(random: &mut Random) -> Vec<u8> {
+    if random.once_in(10) {
+        return noise(random);
+    }
+    let packets = random.below(12);
+    let mut draft = draft(random, packets);
+    let damage = random.below(9);
+    if (4..8).contains(&damage) {
+        change(random, &mut draft);
+    }
+    let mut journal = draft.concat();
+    match damage {
+        3 => follow(random, &mut journal),
+        7 | 8 => spoil(random, &mut journal),
+        _ => {}
+    }
+    journal
+}
+
+fn feeding(random: &mut Random, read: &journal::Journal, length: usize) -> Feeding {
+    let early = read.finish == Finish::Broken(Break::Early);
+    match random.below(40) {
+        0..=5 if !early => Feeding::StaysOpen,
+        6..=8 => Feeding::Pieces {
+            lengths: pieces(random, length),
+            closed: early || random.once_in(2),
+        },
+        9 => Feeding::File,
+        _ => Feeding::Whole,
+    }
+}
+
+/// A few lengths, mostly small ones.
+fn pieces(random: &mut Random, length: usize) -> Vec<usize> {
+    let longest = random.pick(&[1, 3, 20, 100]);
+    let count = random.within(1, 12).min(length);
+    (0..count).map(|_| random.within(1, longest)).collect()
+}
