@@ -37,20 +37,11 @@ pub fn refused(sender: Sender, refusal: Refusal) -> Clocked
 pub fn quiet(sender: Sender, clock: u64) -> Clocked
     ensures { λ r. ⌜ ((p : List ℕ) → Answers.clocked r p ≡ clockQuiet sender clock p) ⌝ }
 {
-    let settings = sender.settings;
-    let waiting = sender.waiting;
-    let blocks = sender.blocks;
-    let progress = sender.progress;
+    let mut next = sender;
+    next.clock = clock;
     Clocked {
         answer: Answer::Quiet,
-        sender: Sender {
-            settings,
-            clock,
-            waiting,
-            blocks,
-            count: sender.count,
-            progress,
-        },
+        sender: next,
     }
 }
 

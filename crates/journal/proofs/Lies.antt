@@ -1,0 +1,50 @@
+-- What a forward packet gives lies within it.
+use Prim.Native.Nat.{ℕ, suc, _-_, _≤_}
+use mathlib.Core.Path.{_≡_, refl}
+use mathlib.Core.List.{List}
+use mathlib.Core.Bool.{Bool, true, false, cond}
+use native.Mathlib.Omega.{arith}
+use lib.IntN.{ℤ, pos}
+use lib.ListN.{length}
+use Rattle.packet.specs.Limits.{level}
+use Rattle.packet.specs.Reading.{Content, Read, holds, refused, reading}
+use Rattle.packet.specs.Places.{placed, startOf}
+use Rattle.packet.proofs.Laws.{lies, start-end, in-order, within}
+use Rattle.delivery.specs.Numbers.{Course, forward, late, courseOf, distance}
+use Rattle.delivery.specs.Record.{loss, wanted}
+use Rattle.receiver.specs.declared.Receiver.{Receiver}
+use Rattle.receiver.specs.Distance.{signed}
+use Rattle.receiver.specs.Step.{Answered, refuses, isLate, gives, givenFrom, sourceExpected, stepRead, firstStep, stepBy, stepOf}
+
+abbrev pub Within : List ℕ → Answered → Type 0
+Within p (refuses n) = Unit {0}
+Within p (isLate z) = Unit {0}
+Within p (gives g) = (g .from ≤ g .to) × (g .to ≤ length p)
+
+from-lies : (r : Receiver) (p : List ℕ) (c : Content) → reading level (sourceExpected r) (r .t140) (r .red) p ≡ holds c
+    → (marks : ℕ) (z : ℤ) (w : ℕ) → Within p (gives (givenFrom p c marks z w))
+from-lies r p c e marks z w =
+    let n = length (c .older) in
+    let k = placed level p c in
+    let l = lies level (sourceExpected r) (r .t140) (r .red) p c e in
+    let f : startOf k (suc n) ≡ k .end = start-end k (suc n) (omega arith) in
+    (rw f at (in-order level p c l (n - w) (suc n) (omega arith) (omega arith)), rw f at (within level p c l (suc n) (omega arith)))
+
+pub given-lies : (r : Receiver) (p : List ℕ) → Within p (stepOf r p .answer)
+unfolding stepOf
+given-lies r p = go (reading level (sourceExpected r) (r .t140) (r .red) p) refl
+  where
+    go : (x : Read) → reading level (sourceExpected r) (r .t140) (r .red) p ≡ x → Within p (stepRead r p x .answer)
+    go (refused n) e = tt
+    go (holds c) e = by (r .«has_source») (courseOf d)
+      where
+        d : ℕ
+        d = distance (c .sequence) (r .expected)
+
+        n : ℕ
+        n = length (c .older)
+
+        by : (h : Bool) (v : Course) → Within p (cond h (stepBy v r p c d) (firstStep r p c) .answer)
+        by true forward = from-lies r p c e (loss d n) (signed d) (wanted d n)
+        by true late = tt
+        by false v = from-lies r p c e 0 (pos 0) n

@@ -1,0 +1,34 @@
+use mathlib.Core.Path.{_∙_, sym}
+use lib.ListN.{length}
+use denote.Ref.{now}
+use Rattle.journal.proofs.Ready.{facts, is-ready, long-enough, ready-gives, unready-gives}
+use borrow.Author.Needs.{needs}
+use Rattle.journal.proofs.Transcript.give.Statement.{statement}
+use Rattle.journal.proofs.Transcript.give.Tie as tie
+
+is-ready-requires : tie.Need-is-ready-requires
+is-ready-requires c κs = search needs
+
+give-requires : tie.Need-give-requires
+give-requires c κs =
+    let a = c .before .before .before .before .before .args in
+    let h = sym (c .before .before .is-ready .ensures) ∙ c .before .if1 .taken in
+    let r = is-ready (a .self) (length (now (a .packet))) h in
+    let f = facts (a .self) r in
+    (r, f .order, f .inside, long-enough (a .self) (length (now (a .packet))) h)
+
+same-length : tie.Need-same-length
+same-length c = search needs
+
+returns : tie.Need-returns
+returns c =
+    let a = c .before .before .before .before .before .before .before .before .args in
+    ready-gives (a .self) (now (a .packet)) (now (a .space)) _ _ _ (sym (c .before .before .before .before .before .is-ready .ensures) ∙ c .before .before .before .before .if1 .taken) (c .before .before .give .ensures)
+
+returns-2 : tie.Need-returns-2
+returns-2 c =
+    let a = c .before .before .before .before .args in
+    unready-gives (a .self) (now (a .packet)) (now (a .space)) (sym (c .before .is-ready .ensures) ∙ c .if1 .left)
+
+pub give-spec : {M : Type 1} → statement M
+give-spec = tie.close (tie.spec is-ready-requires give-requires same-length returns returns-2)

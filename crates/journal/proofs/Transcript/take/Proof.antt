@@ -1,0 +1,32 @@
+use mathlib.Core.Path.{_∙_, sym}
+use lib.ListN.{length}
+use denote.Ref.{now}
+use Rattle.journal.proofs.Ready.{is-ready, long-enough, ready-takes, unready-takes}
+use borrow.Author.Needs.{needs}
+use Rattle.journal.proofs.Transcript.take.Statement.{statement}
+use Rattle.journal.proofs.Transcript.take.Tie as tie
+
+is-ready-requires : tie.Need-is-ready-requires
+is-ready-requires c κs = search needs
+
+take-requires : tie.Need-take-requires
+take-requires c κs =
+    let a = c .before .before .before .before .before .args in
+    let h = sym (c .before .before .is-ready .ensures) ∙ c .before .if1 .taken in
+    (is-ready (a .self) (length (now (a .packet))) h, long-enough (a .self) (length (now (a .packet))) h)
+
+same-length : tie.Need-same-length
+same-length c = search needs
+
+returns : tie.Need-returns
+returns c =
+    let a = c .before .before .before .before .before .before .before .before .args in
+    ready-takes (a .self) (now (a .packet)) (now (a .input)) _ _ _ (sym (c .before .before .before .before .before .is-ready .ensures) ∙ c .before .before .before .before .if1 .taken) (c .before .before .take .ensures)
+
+returns-2 : tie.Need-returns-2
+returns-2 c =
+    let a = c .before .before .before .before .args in
+    unready-takes (a .self) (now (a .packet)) (now (a .input)) (sym (c .before .is-ready .ensures) ∙ c .if1 .left)
+
+pub take-spec : {M : Type 1} → statement M
+take-spec = tie.close (tie.spec is-ready-requires take-requires same-length returns returns-2)

@@ -1,0 +1,18 @@
+use borrow.Author.Needs.{needs}
+use Rattle.journal.proofs.closing.put_broken.Statement.{statement}
+use Rattle.journal.proofs.closing.put_broken.Tie as tie
+
+slice-aggregate-put : tie.Need-slice-aggregate-put
+slice-aggregate-put c = search needs
+
+put-requires : tie.Need-put-requires
+put-requires c κs = search needs
+
+same-length : tie.Need-same-length
+same-length c = search needs
+
+returns : tie.Need-returns
+returns c = search needs
+
+pub put-broken-spec : {M : Type 1} → statement M
+put-broken-spec = tie.close (tie.spec slice-aggregate-put put-requires same-length returns)

@@ -1,0 +1,66 @@
+-- Lists of calls, however the journal is cut and however short the space; and the code's calls, answered as their contracts say.
+use Prim.Native.Nat.{ℕ, _≤_, _<_}
+use mathlib.Core.Path.{_≡_}
+use mathlib.Core.Bool.{true, false}
+use mathlib.Core.List.{List, [], _∷_, _++_}
+use lib.ListN.{length, take, drop}
+use Rattle.records.specs.Contents.{longestPacket}
+use Rattle.records.specs.Bytes.{going}
+use Rattle.journal.specs.declared.Transcript.{Transcript}
+use Rattle.journal.specs.Transcript.{transcript}
+use Rattle.journal.specs.Standing.{Standing, start, takeOf, usedOf, givenOf, giveOf, stopOf, hungry, nothingDue, finished}
+use Rattle.journal.specs.Ready.{first, Taking, Giving, Stopping, done}
+
+-- A call: the journal's next n bytes are lent to `take` (fewer, where the journal has fewer); n bytes of space are lent to `give`;
+-- or `stop` is called, which is done only where the journal has no more bytes.
+pub data Call : Type 0 where
+  takes : ℕ → Call
+  gives : ℕ → Call
+  stops : Call
+
+-- what was given, joined; where the calls led; and what of the journal is still to come
+pub record Played : Type 0 where
+  pub given : List ℕ
+  pub standing : Standing
+  pub rest : List ℕ
+
+abbrev pub behind : List ℕ → Played → Played
+behind x r = record { given = x ++ r .given; standing = r .standing; rest = r .rest }
+
+unfoldable pub play : List Call → Standing → List ℕ → Played
+play [] c rest = record { given = []; standing = c; rest = rest }
+play (takes n ∷ ks) c rest = play ks (takeOf c (take n rest)) (drop (usedOf c (take n rest)) rest)
+play (gives n ∷ ks) c rest = behind (givenOf c n) (play ks (giveOf c n) rest)
+play (stops ∷ ks) c [] = play ks (stopOf c) []
+play (stops ∷ ks) c (b ∷ rest) = play ks c (b ∷ rest)
+
+pub record Cuts : Type 0 where
+  -- whatever the calls, what was given is a front of the transcript
+  pub front : (j : List ℕ) (ks : List Call) → (more : List ℕ) × (transcript j ≡ play ks start j .given ++ more)
+  -- and the whole of it once the calls say that it is done
+  pub whole : (j : List ℕ) (ks : List Call) → finished (play ks start j .standing) ≡ true → play ks start j .given ≡ transcript j
+  -- the calls get on: where nothing is due, `take` uses a byte of the journal or reading ends
+  pub takes-some : (c : Standing) (x : List ℕ) → hungry c ≡ true → 0 < length x → hungry (takeOf c x) ≡ true → 0 < usedOf c x
+  -- where something is due, `give` gives some of it into three bytes of space or more
+  pub gives-some : (c : Standing) (n : ℕ) → nothingDue c ≡ false → 3 ≤ n → 0 < length (givenOf c n)
+  -- and where nothing is due, reading has ended behind `stop`
+  pub stops-all : (c : Standing) → nothingDue c ≡ true → going (stopOf c .reading .part) ≡ false
+
+-- Calls of the code on one lent buffer, each answered as its contract says: from a transcript, the buffer p and the journal's
+-- bytes still to come to those behind the calls, with what was given, joined. A buffer keeps its length, and `stop` is called
+-- only where the journal has no more bytes.
+pub data Ran : Transcript → List ℕ → List ℕ → List Call → List ℕ → Transcript → List ℕ → List ℕ → Type 0 where
+  none : (s : Transcript) (p rest : List ℕ) → Ran s p rest [] [] s p rest
+  took : (s : Transcript) (p rest : List ℕ) (n : ℕ) (s₁ : Transcript) (p₁ : List ℕ) (used : ℕ) {ks : List Call} {given : List ℕ} {s' : Transcript} {p' rest' : List ℕ}
+      → Taking s p (take n rest) s₁ p₁ used → length p₁ ≡ length p → Ran s₁ p₁ (drop used rest) ks given s' p' rest' → Ran s p rest (takes n ∷ ks) given s' p' rest'
+  gave : (s : Transcript) (p rest : List ℕ) (x : List ℕ) (s₁ : Transcript) (x₁ : List ℕ) (count : ℕ) {ks : List Call} {given : List ℕ} {s' : Transcript} {p' rest' : List ℕ}
+      → Giving s p x s₁ x₁ count → Ran s₁ p rest ks given s' p' rest' → Ran s p rest (gives (length x) ∷ ks) (take count x₁ ++ given) s' p' rest'
+  stopped : (s : Transcript) (p : List ℕ) (s₁ : Transcript) (p₁ : List ℕ) {ks : List Call} {given : List ℕ} {s' : Transcript} {p' rest' : List ℕ}
+      → Stopping s p s₁ p₁ → length p₁ ≡ length p → Ran s₁ p₁ [] ks given s' p' rest' → Ran s p [] (stops ∷ ks) given s' p' rest'
+
+-- what the code gives of a journal
+pub record CodeGives : Type 0 where
+  pub front : (j p : List ℕ) (ks : List Call) (given : List ℕ) (s' : Transcript) (p' rest' : List ℕ) → longestPacket ≤ length p → Ran first p j ks given s' p' rest'
+      → (more : List ℕ) × (transcript j ≡ given ++ more)
+  pub whole : (j p : List ℕ) (ks : List Call) (given : List ℕ) (s' : Transcript) (p' rest' : List ℕ) → longestPacket ≤ length p → Ran first p j ks given s' p' rest'
+      → done s' ≡ true → given ≡ transcript j

@@ -1,0 +1,6 @@
+pub mod Transcript
+pub mod Counts
+pub mod Standing
+pub mod Ready
+pub mod Acting
+pub mod Calls

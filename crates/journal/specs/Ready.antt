@@ -1,0 +1,100 @@
+-- A transcript and the buffer lent with it, as a standing; and what each call answers.
+use Prim.Native.Nat.{ℕ, _-_, _*_}
+use mathlib.Core.Path.{_≡_}
+use mathlib.Core.List.{List}
+use mathlib.Core.Bool.{Bool, true, false, _&&_, not}
+use lib.Dec.{leb, eqb}
+use lib.ListN.{length, take, drop}
+use Rattle.packet.specs.Arrays.{over}
+use Rattle.receiver.specs.Opening.{zeroReceiver}
+use Rattle.records.specs.Contents.{limit, longestPacket}
+use Rattle.records.specs.Bytes.{going}
+use Rattle.records.specs.Reading.{readingOf, sound}
+use Rattle.records.specs.Reading as Reading
+use Rattle.journal.specs.declared.Counts.{Counts}
+use Rattle.journal.specs.declared.Transcript.{Transcript}
+use Rattle.journal.specs.Counts.{noCounts}
+use Rattle.journal.specs.Standing.{Standing, takeOf, usedOf, givenOf, giveOf, stopOf}
+
+-- before the first byte
+abbrev pub first : Transcript
+first = record { reader = Reading.start; receiver = zeroReceiver; counts = noCounts; left = limit; marks = 0; from = 0; to = 0 }
+
+-- the pieces of a packet and the text due lie in the lent buffer
+abbrev pub standingOf : Transcript → List ℕ → Standing
+standingOf s p = record {
+  reading = readingOf (s .reader) p;
+  receiver = s .receiver;
+  counts = s .counts;
+  left = s .left;
+  marks = s .marks;
+  text = take (s .to - s .from) (drop (s .from) p);
+}
+
+-- no more packets than bytes read, and for each no more blocks lost than a number of 16 bits says
+abbrev pub countsFit : Counts → ℕ → Bool
+countsFit k read = leb (k .packets) read && leb (k .late) read && leb (k .refused) read && leb (k .lost) (65535 * read)
+
+-- a transcript from which calls can go on: such are `first` and, again, those that calls leave
+abbrev pub ready : Transcript → Bool
+ready s =
+    leb (s .from) (s .to) && leb (s .to) longestPacket && leb (s .left) limit && countsFit (s .counts) (limit - s .left) && sound (s .reader)
+
+-- it is lent a buffer of so many bytes
+abbrev pub readyWith : Transcript → ℕ → Bool
+readyWith s space = leb longestPacket space && ready s
+
+-- nothing is done: the transcript and the lent bytes stay, and the number is 0
+pub record Stays (s : Transcript) (l : List ℕ) (s' : Transcript) (l' : List ℕ) (n : ℕ) : Type 0 where
+  pub transcript : s' ≡ s
+  pub lent : l' ≡ l
+  pub none : n ≡ 0
+
+-- With the lent p, so many bytes of x were taken. Of p' only what the standing holds is told, the pieces and the text due; its
+-- other bytes, and where in it the text lies, are left open, here and for `stop`.
+pub record Takes (s : Transcript) (p x : List ℕ) (s' : Transcript) (p' : List ℕ) (used : ℕ) : Type 0 where
+  pub still : ready s' ≡ true
+  pub stands : standingOf s' p' ≡ takeOf (standingOf s p) x
+  pub uses : used ≡ usedOf (standingOf s p) x
+
+abbrev pub TakesIf : Bool → Transcript → List ℕ → List ℕ → Transcript → List ℕ → ℕ → Type 0
+TakesIf true s p x s' p' used = Takes s p x s' p' used
+TakesIf false s p x s' p' used = Stays s p s' p' used
+
+-- what `take` answers
+abbrev pub Taking : Transcript → List ℕ → List ℕ → Transcript → List ℕ → ℕ → Type 0
+Taking s p x s' p' used = TakesIf (readyWith s (length p)) s p x s' p' used
+
+-- the space x became x', with so many bytes given at its front
+pub record Gives (s : Transcript) (p x : List ℕ) (s' : Transcript) (x' : List ℕ) (count : ℕ) : Type 0 where
+  pub still : ready s' ≡ true
+  pub stands : standingOf s' p ≡ giveOf (standingOf s p) (length x)
+  pub counts : count ≡ length (givenOf (standingOf s p) (length x))
+  pub bytes : x' ≡ over (givenOf (standingOf s p) (length x)) x
+
+abbrev pub GivesIf : Bool → Transcript → List ℕ → List ℕ → Transcript → List ℕ → ℕ → Type 0
+GivesIf true s p x s' x' count = Gives s p x s' x' count
+GivesIf false s p x s' x' count = Stays s x s' x' count
+
+-- what `give` answers
+abbrev pub Giving : Transcript → List ℕ → List ℕ → Transcript → List ℕ → ℕ → Type 0
+Giving s p x s' x' count = GivesIf (readyWith s (length p)) s p x s' x' count
+
+pub record Stops (s : Transcript) (p : List ℕ) (s' : Transcript) (p' : List ℕ) : Type 0 where
+  pub still : ready s' ≡ true
+  pub stands : standingOf s' p' ≡ stopOf (standingOf s p)
+
+abbrev pub StopsIf : Bool → Transcript → List ℕ → Transcript → List ℕ → Type 0
+StopsIf true s p s' p' = Stops s p s' p'
+StopsIf false s p s' p' = Stays s p s' p' 0
+
+-- what `stop` answers
+abbrev pub Stopping : Transcript → List ℕ → Transcript → List ℕ → Type 0
+Stopping s p s' p' = StopsIf (readyWith s (length p)) s p s' p'
+
+-- what `is_due` and `is_done` answer, of a transcript by itself; `proofs/Ready` shows that its standing says the same
+abbrev pub noneDue : Transcript → Bool
+noneDue s = eqb (s .marks) 0 && leb (s .to) (s .from)
+
+abbrev pub done : Transcript → Bool
+done s = not (going (s .reader .part)) && noneDue s

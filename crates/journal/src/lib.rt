@@ -1,0 +1,183 @@
+// A journal's transcript, from pieces of any size into space of any size.
+mod closing;
+mod giving;
+mod settling;
+mod taking;
+
+ghost use mathlib.Core.Path.{_≡_};
+ghost use mathlib.Core.Bool.{not};
+ghost use Prim.Native.Nat.{_≤_};
+ghost use Rattle.journal.specs.Ready.{first, countsFit, readyWith, Taking, Giving, Stopping, noneDue, done};
+use receiver::Receiver;
+use records::Reader;
+
+// Of the packets read: those neither late nor refused, those late, the blocks lost, and those refused.
+pub struct Counts {
+    pub packets: u64,
+    pub late: u64,
+    pub lost: u64,
+    pub refused: u64,
+}
+
+// A transcript under way: the journal's reader, the receiver, the counts, how many bytes of the journal may still be
+// read, and what is due: so many marks, then the lent packet's bytes from `from` up to `to`.
+pub struct Transcript {
+    pub reader: Reader,
+    pub receiver: Receiver,
+    pub counts: Counts,
+    pub left: usize,
+    pub marks: usize,
+    pub from: usize,
+    pub to: usize,
+}
+
+// How many bytes of the journal were used.
+pub struct Taken {
+    pub transcript: Transcript,
+    pub used: usize,
+}
+
+// How many bytes of the space were filled.
+pub struct Given {
+    pub transcript: Transcript,
+    pub count: usize,
+}
+
+// All calls on a transcript are lent the same packet buffer, whose bytes stay between them. A call that is lent a shorter
+// one than `BUFFER`, or a transcript that these calls did not leave, does nothing.
+impl Transcript {
+    // The least length of the packet buffer: the longest packet.
+    pub const BUFFER: usize = Reader::BUFFER;
+    // So many bytes of a journal are read at most.
+    pub const LIMIT: usize = 1099511627776;
+    // A number of 16 bits says how many blocks a packet lost.
+    const MOST_LOST: u64 = 65535;
+
+    pub fn start() -> Transcript
+        ensures { λ r. ⌜ r ≡ first ⌝ }
+    {
+        Transcript {
+            reader: Reader::fresh(),
+            receiver: Receiver {
+                t140: 0,
+                red: 0,
+                has_source: false,
+                source: 0,
+                expected: 0,
+            },
+            counts: Counts {
+                packets: 0,
+                late: 0,
+                lost: 0,
+                refused: 0,
+            },
+            left: Transcript::LIMIT,
+            marks: 0,
+            from: 0,
+            to: 0,
+        }
+    }
+
+    // Takes the journal's next bytes until something is due, the journal has ended or all are used; none while something
+    // is due. What was not used is lent again.
+    pub fn take(self, input: &[u8], packet: &mut [u8]) -> Taken
+        ensures { λ r. ⌜ Taking self (now (packet .entry)) (now (input .entry)) (r .transcript) (now (packet .exit)) (r .used) ⌝ }
+    {
+        let ready = is_ready(self, packet.len());
+        if ready {
+            return taking::take(self, input, packet);
+        }
+        Taken {
+            transcript: self,
+            used: 0,
+        }
+    }
+
+    // Gives what is due into the front of the space: whole marks, then text. With marks due, a space of one or two bytes
+    // gets nothing.
+    pub fn give(self, packet: &[u8], space: &mut [u8]) -> Given
+        ensures { λ r. ⌜ Giving self (now (packet .entry)) (now (space .entry)) (r .transcript) (now (space .exit)) (r .count) ⌝ }
+    {
+        let ready = is_ready(self, packet.len());
+        if ready {
+            return giving::give(self, packet, space);
+        }
+        Given {
+            transcript: self,
+            count: 0,
+        }
+    }
+
+    // The journal has no more bytes: without its end it is broken.
+    pub fn stop(self, packet: &mut [u8]) -> Transcript
+        ensures { λ r. ⌜ Stopping self (now (packet .entry)) r (now (packet .exit)) ⌝ }
+    {
+        let ready = is_ready(self, packet.len());
+        if ready {
+            return taking::stop(self, packet);
+        }
+        self
+    }
+
+    // Whether marks or text are due.
+    pub fn is_due(self) -> bool
+        ensures { λ r. ⌜ r ≡ not (noneDue self) ⌝ }
+    {
+        let nothing = taking::is_nothing_due(self);
+        !nothing
+    }
+
+    // Whether the end has come, and all is given.
+    pub fn is_done(self) -> bool
+        ensures { λ r. ⌜ r ≡ done self ⌝ }
+    {
+        let reader = self.reader;
+        let part = reader.part;
+        if taking::is_going(part) {
+            return false;
+        }
+        taking::is_nothing_due(self)
+    }
+}
+
+// Of so many bytes read.
+fn counts_fit(counts: Counts, read: u64) -> bool
+    requires { ⌜ read ≤ 1099511627776 ⌝ }
+    ensures { λ r. ⌜ r ≡ countsFit counts read ⌝ }
+{
+    if read < counts.packets {
+        return false;
+    }
+    if read < counts.late {
+        return false;
+    }
+    if read < counts.refused {
+        return false;
+    }
+    counts.lost <= Transcript::MOST_LOST * read
+}
+
+// Whether these calls left the transcript, and the lent buffer has the space.
+fn is_ready(s: Transcript, space: usize) -> bool
+    ensures { λ r. ⌜ r ≡ readyWith s space ⌝ }
+{
+    if space < Transcript::BUFFER {
+        return false;
+    }
+    if s.to < s.from {
+        return false;
+    }
+    if Transcript::BUFFER < s.to {
+        return false;
+    }
+    if Transcript::LIMIT < s.left {
+        return false;
+    }
+    let counts = s.counts;
+    let read = Transcript::LIMIT - s.left;
+    if counts_fit(counts, read as u64) {
+        let reader = s.reader;
+        return reader.is_sound();
+    }
+    false
+}

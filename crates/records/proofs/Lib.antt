@@ -1,0 +1,10 @@
+pub mod Spans
+pub mod Agree
+pub mod Laws
+pub mod Zeros
+pub mod Sound
+pub mod Outcomes
+pub mod Lent
+pub mod Turns
+pub mod Gathering
+pub mod Runs

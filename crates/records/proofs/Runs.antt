@@ -1,0 +1,82 @@
+-- The turns of a reader, one after the other.
+use Prim.Native.Nat.{ℕ, _+_, _-_, _≤_}
+use mathlib.Core.Path.{_≡_, _∙_, refl, ap, sym}
+use mathlib.Core.List.{List, [], _∷_}
+use mathlib.Core.Bool.{Bool, true, false}
+use native.Mathlib.Omega.{arith}
+use lib.ListN.{length, take, drop, drop-of-length-le, length-drop}
+use lib.Seq.{drop-drop}
+use Rattle.packet.specs.Arrays.{over}
+use Rattle.records.specs.declared.Reader.{Reader}
+use Rattle.records.specs.Bytes.{Reading, readTo, unread, going}
+use Rattle.records.specs.Reading.{readingOf, sound, ready, ReadAll, Read, broken}
+use Rattle.records.specs.Turns.{Went, Turned, lentAfter}
+use borrow.Author.Tests.{leb-true}
+use lib.Dec.{leb}
+use Rattle.records.proofs.Sound.{and-left, and-right, fits}
+use Rattle.records.proofs.Zeros.{behind}
+use Rattle.records.proofs.Lent.{lends-all}
+
+pub gone : (r : Reader) (p s : List ℕ) → sound r ≡ true → Went r p s r p 0
+gone r p s ok = record { still = ok; within = omega arith; reads = refl; leaves = refl; lends = refl }
+
+-- reading is over in s
+abbrev Over : Reading → List ℕ → Type 0
+Over r s = (readTo r s ≡ r) × (unread r s ≡ s)
+
+over-stop : (r : Reading) (s : List ℕ) → going (r .part) ≡ false → Over r s
+unfolding readTo unread
+over-stop r [] h = (refl, refl)
+over-stop r (b ∷ bs) h = (simp h, simp h)
+
+over-end : (r : Reading) (s : List ℕ) → s ≡ [] → Over r s
+unfolding readTo unread
+over-end r s e = (ap (readTo r) e, ap (unread r) e ∙ sym e)
+
+module _ (r₀ : Reader) (p₀ s : List ℕ) (r : Reader) (p : List ℕ) (i : ℕ) (w : Went r₀ p₀ s r p i) where
+  module _ (r' : Reader) (p' : List ℕ) (n : ℕ) (t : Turned r p (take (length s - i) (drop i s)) r' p' n) where
+    next : Went r p (drop i s) r' p' n
+    next = rw (behind i s) at (t .goes)
+
+    pub went-on : Went r₀ p₀ s r' p' (i + n)
+    went-on = record {
+      still = next .still;
+      within = omega (arith, next .within, w .within, length-drop i s);
+      reads = w .reads ∙ next .reads ∙ ap (readTo (readingOf r' p')) (drop-drop n i s);
+      leaves = w .leaves ∙ next .leaves ∙ ap (unread (readingOf r' p')) (drop-drop n i s);
+      lends = w .lends ∙ next .lends ∙ ap (λ (l : List ℕ). lentAfter (readingOf r' p') l p') (drop-drop n i s);
+    }
+
+  -- what is left is not read
+  all-read : 1488 ≤ length p → Over (readingOf r p) (drop i s) → ReadAll r₀ p₀ s r p i
+  all-read big o = record {
+    still = w .still;
+    within = w .within;
+    reads = sym (w .reads ∙ o .0);
+    leaves = sym (w .leaves ∙ o .1);
+    keeps = lends-all (r .at) p p₀ (omega (arith, fits r (w .still)))
+        (ap (λ (x : Reading). over (x .pieces) p₀) (sym (w .reads ∙ o .0)) ∙ w .lends ∙ ap (λ (x : Reading). over (x .pieces) p) (o .0));
+  }
+
+  pub at-end : 1488 ≤ length p → length s ≤ i → ReadAll r₀ p₀ s r p i
+  at-end big h = all-read big (over-end (readingOf r p) (drop i s) (drop-of-length-le s h))
+
+  pub at-stop : 1488 ≤ length p → going (r .part) ≡ false → ReadAll r₀ p₀ s r p i
+  at-stop big h = all-read big (over-stop (readingOf r p) (drop i s) h)
+
+-- the last turn used nothing
+pub turn-last : (r₀ : Reader) (p₀ s : List ℕ) (r : Reader) (p : List ℕ) (i : ℕ) → Went r₀ p₀ s r p i
+    → (r' : Reader) (p' : List ℕ) (n : ℕ) → Turned r p (take (length s - i) (drop i s)) r' p' n → 1488 ≤ length p' → n ≡ 0 → ReadAll r₀ p₀ s r' p' i
+turn-last r₀ p₀ s r p i w r' p' n t big z =
+    let e : i + n ≡ i = omega arith in
+    at-stop r₀ p₀ s r' p' i (rw e at (went-on r₀ p₀ s r p i w r' p' n t)) big (t .stops z)
+
+pub ready-is : (r : Reader) (n : ℕ) (b : Bool) → b ≡ ready r n → b ≡ true → (sound r ≡ true) × (1488 ≤ n)
+ready-is r n b e h = let w = sym e ∙ h in (and-right (leb 1488 n) _ w, leb-true 1488 n (and-left (leb 1488 n) _ w))
+
+module _ (r : Reader) (p s : List ℕ) (b : Bool) (e : b ≡ ready r (length p)) where
+  pub read-on : b ≡ true → (r' : Reader) (p' : List ℕ) (used : ℕ) → ReadAll r p s r' p' used → Read r p s r' p' used
+  read-on h r' p' used w = rw (sym e ∙ h) w
+
+  pub read-not : b ≡ false → Read r p s (broken r) p 0
+  read-not h = rw (sym e ∙ h) (record { reader = refl; packet = refl; none = refl })

@@ -1,0 +1,5 @@
+pub mod Records
+pub mod Contents
+pub mod Bytes
+pub mod Reading
+pub mod Turns

@@ -1,0 +1,82 @@
+-- A reader and the buffer lent to it, as a reading; and what a call answers.
+use Prim.Native.Nat.{ℕ, _+_, _%_, _≤_}
+use mathlib.Core.Path.{_≡_}
+use mathlib.Core.List.{List}
+use mathlib.Core.Bool.{Bool, true, false, cond, _&&_}
+use lib.Dec.{ltb, leb, eqb}
+use lib.ListN.{length, take, drop}
+use Rattle.records.specs.declared.Part.{Part}
+use Rattle.records.specs.declared.Part.the-variants.{Kind, Types, Red, Length, Low, Piece, Time, Opened, Packet, Ended, Broken}
+use Rattle.records.specs.declared.Reader.{Reader}
+use Rattle.records.specs.Records.{pieceLength}
+use Rattle.records.specs.Contents.{longestPacket}
+use Rattle.records.specs.Bytes.{Reading, readTo, unread}
+
+-- before the first byte
+abbrev pub start : Reader
+start = record { opened = false; part = Kind; size = 0; at = 0 }
+
+-- the lent buffer begins with the pieces' bytes
+abbrev pub readingOf : Reader → List ℕ → Reading
+readingOf r p = record { opened = r .opened; part = r .part; size = r .size; pieces = take (r .at) p }
+
+abbrev pub with : Reader → Part → ℕ → Reader
+with r q at = record { opened = r .opened; part = q; size = r .size; at = at }
+
+abbrev pub broken : Reader → Reader
+broken r = with r Broken (r .at)
+
+-- a packet of n bytes begins
+abbrev pub begunBy : Reader → ℕ → Reader
+begunBy r n =
+    cond (ltb longestPacket n) (broken r)
+    (record { opened = r .opened; part = cond (eqb n 0) Packet Kind; size = n; at = 0 })
+
+-- the bytes of whole pieces, of the longest packet's at most
+abbrev pub wholePieces : ℕ → Bool
+wholePieces n = leb n longestPacket && eqb (n % pieceLength) 0
+
+-- what was kept of a record is a byte, a piece or a time under way has a byte to come, and a packet is within its pieces
+abbrev pub soundAt : Part → ℕ → ℕ → Bool
+soundAt Kind size at = wholePieces at
+soundAt Types size at = wholePieces at
+soundAt (Red t140) size at = ltb t140 256 && wholePieces at
+soundAt Length size at = wholePieces at
+soundAt (Low high) size at = ltb high 256 && wholePieces at
+soundAt (Piece n) size at = leb 1 n && wholePieces (at + n)
+soundAt (Time n) size at = leb 1 n && wholePieces at
+soundAt (Opened t140 red) size at = ltb t140 256 && ltb red 256 && wholePieces at
+soundAt Packet size at = leb size at && wholePieces at
+soundAt Ended size at = wholePieces at
+soundAt Broken size at = wholePieces at
+
+-- a reader from which reading can go on: such are `start` and, again, those that calls leave
+abbrev pub sound : Reader → Bool
+sound r = leb (r .size) longestPacket && soundAt (r .part) (r .size) (r .at)
+
+-- it is lent a buffer of so many bytes
+abbrev pub ready : Reader → ℕ → Bool
+ready r space = leb longestPacket space && sound r
+
+-- All of s was given to r with the lent p, and used as far as reading goes: r' and p' hold the reading, so many bytes were used,
+-- and behind the pieces p stays as it was.
+pub record ReadAll (r : Reader) (p s : List ℕ) (r' : Reader) (p' : List ℕ) (used : ℕ) : Type 0 where
+  pub still : sound r' ≡ true
+  pub within : used ≤ length s
+  pub reads : readingOf r' p' ≡ readTo (readingOf r p) s
+  pub leaves : drop used s ≡ unread (readingOf r p) s
+  pub keeps : drop (r' .at) p' ≡ drop (r' .at) p
+
+-- r cannot go on, or p is too short
+pub record Stopped (r : Reader) (p : List ℕ) (r' : Reader) (p' : List ℕ) (used : ℕ) : Type 0 where
+  pub reader : r' ≡ broken r
+  pub packet : p' ≡ p
+  pub none : used ≡ 0
+
+abbrev pub ReadIf : Bool → Reader → List ℕ → List ℕ → Reader → List ℕ → ℕ → Type 0
+ReadIf true r p s r' p' used = ReadAll r p s r' p' used
+ReadIf false r p s r' p' used = Stopped r p r' p' used
+
+-- what `read` answers
+abbrev pub Read : Reader → List ℕ → List ℕ → Reader → List ℕ → ℕ → Type 0
+Read r p s r' p' used = ReadIf (ready r (length p)) r p s r' p' used

@@ -1,0 +1,40 @@
+-- What single turns of a reader do.
+use Prim.Native.Nat.{ℕ, _≤_}
+use mathlib.Core.Path.{_≡_}
+use mathlib.Core.List.{List}
+use mathlib.Core.Bool.{Bool, true, false}
+use lib.ListN.{length, take, drop}
+use Rattle.packet.specs.Arrays.{over}
+use Rattle.records.specs.declared.Reader.{Reader}
+use Rattle.records.specs.Bytes.{Reading, readTo, unread, going, pieceEnd}
+use Rattle.records.specs.Reading.{readingOf, wholePieces, sound}
+
+-- the lent p once s is read as far as reading goes
+abbrev pub lentAfter : Reading → List ℕ → List ℕ → List ℕ
+lentAfter r s p = over (readTo r s .pieces) p
+
+-- r and p were given s, and became r' and p' with so many used: reading goes on from there as from the beginning
+pub record Went (r : Reader) (p s : List ℕ) (r' : Reader) (p' : List ℕ) (used : ℕ) : Type 0 where
+  pub still : sound r' ≡ true
+  pub within : used ≤ length s
+  pub reads : readTo (readingOf r p) s ≡ readTo (readingOf r' p') (drop used s)
+  pub leaves : unread (readingOf r p) s ≡ unread (readingOf r' p') (drop used s)
+  pub lends : lentAfter (readingOf r p) s p ≡ lentAfter (readingOf r' p') (drop used s) p'
+
+-- within a packet, or behind its last piece
+abbrev pub inPacket : Bool → ℕ → List ℕ → Reading
+inPacket opened size ps = record { opened = opened; part = pieceEnd size ps; size = size; pieces = ps }
+
+-- whole pieces of s went behind the first `at` bytes of p, as far as a packet of `size` bytes needs them
+pub record Gathers (size at : ℕ) (p s : List ℕ) (at' : ℕ) (p' : List ℕ) (used : ℕ) : Type 0 where
+  pub whole : wholePieces at' ≡ true
+  pub within : used ≤ length s
+  pub reads : (o : Bool) → readTo (inPacket o size (take at p)) s ≡ readTo (inPacket o size (take at' p')) (drop used s)
+  pub leaves : (o : Bool) → unread (inPacket o size (take at p)) s ≡ unread (inPacket o size (take at' p')) (drop used s)
+  pub rest : drop at' p' ≡ drop at' p
+  pub none : used ≡ 0 → (at' ≡ at) × (p' ≡ p)
+
+-- one turn: it used some bytes, or reading has stopped
+pub record Turned (r : Reader) (p s : List ℕ) (r' : Reader) (p' : List ℕ) (used : ℕ) : Type 0 where
+  pub goes : Went r p s r' p' used
+  pub stops : used ≡ 0 → going (r' .part) ≡ false

@@ -1,0 +1,164 @@
+/*
+ * Stewpigeon: a proved sender and receiver of RTP text (RFC 4103), and a packet reader.
+ *
+ * Link with libffi.a, which `rt staticlib ffi` writes to target/staticlib.
+ *
+ * Records belong to the caller, who lends them for the time of a call. Any values of their fields get an answer; only
+ * a record that the opening filled and nobody else wrote to does what a line should. No pointer may be null, also
+ * where a length is 0, and what one call is lent must not overlap. Calls on different records may run at once.
+ */
+#ifndef STEWPIGEON_H
+#define STEWPIGEON_H
+
+#include <stdbool.h>
+#include <stddef.h>
+#include <stdint.h>
+
+#ifdef __cplusplus
+extern "C" {
+#endif
+
+/* The refusals, by the numbers that calls answer. */
+enum stewpigeon_refusal {
+    STEWPIGEON_ACCEPTED = 0,
+    STEWPIGEON_LEVEL = 1,          /* more repeats than STEWPIGEON_LEVELS */
+    STEWPIGEON_BUFFERING = 2,      /* buffering time 0 or above 500 ms */
+    STEWPIGEON_PAYLOAD_TYPES = 3,  /* payload types outside 96 to 127, or equal */
+    STEWPIGEON_WAITING_ROOM = 4,   /* the text does not fit in the waiting room */
+    STEWPIGEON_CLOCK = 5,          /* the clock is below the latest accepted one */
+    STEWPIGEON_TEXT = 6,           /* the text is not UTF-8 */
+    STEWPIGEON_NO_TEXT = 7,        /* the text is empty */
+    STEWPIGEON_SPACE = 8,          /* the space is shorter than the packet that is due */
+    STEWPIGEON_SHORT = 10,         /* a packet under 12 bytes */
+    STEWPIGEON_LONG = 11,          /* a packet over 1,472 bytes */
+    STEWPIGEON_VERSION = 12,       /* the RTP version is not 2 */
+    STEWPIGEON_HEADER = 13,        /* source list or extension pass the packet's end */
+    STEWPIGEON_PADDING = 14,       /* padding count 0, above the payload, or no payload to hold it */
+    STEWPIGEON_PAYLOAD_TYPE = 15,  /* the payload type is neither T140 nor RED */
+    STEWPIGEON_SOURCE = 16,        /* another source than that of the first accepted packet */
+    STEWPIGEON_BLOCK_HEADERS = 17, /* block headers pass the end */
+    STEWPIGEON_BLOCK_COUNT = 18,   /* a fifth older block */
+    STEWPIGEON_BLOCK_TYPE = 19,    /* a block's type is not T140 */
+    STEWPIGEON_BLOCK_LENGTHS = 20, /* the older blocks' lengths pass the end */
+    STEWPIGEON_BLOCK_TEXT = 21,    /* a block is not UTF-8 */
+    STEWPIGEON_NO_SPACE = 255      /* stewpigeon_read, stewpigeon_text: too few numbers lent for the answer */
+};
+
+#define STEWPIGEON_LEVELS 4        /* the highest number of repeats */
+#define STEWPIGEON_BUFFERING_MS 300 /* the usual buffering time */
+#define STEWPIGEON_ROOM 160        /* the bytes that a waiting room, and so a block, holds */
+#define STEWPIGEON_SHORTEST 12     /* the shortest packet that is read */
+#define STEWPIGEON_LONGEST 1472    /* and the longest; no packet that is written is longer */
+#define STEWPIGEON_MARK 3          /* the bytes of a loss mark, EF BF BD */
+
+/* A receiver. `expected` is the sequence number that is expected next, once a packet was accepted (`has_source`). */
+struct stewpigeon_receiver {
+    uint8_t t140;
+    uint8_t red;
+    bool has_source;
+    uint32_t source;
+    uint16_t expected;
+};
+
+#define STEWPIGEON_RECEIVER_SIZE 12
+
+/* What the receiver's step says of an accepted packet; all zeros where it is refused. */
+struct stewpigeon_step {
+    uint8_t late;     /* 1: late, or a copy; it gives nothing */
+    uint16_t loss;    /* how many blocks were lost before it: so many marks stand before its text */
+    int16_t distance; /* how far it is from the expected number; below 0 where it is late */
+    size_t older;     /* how many older blocks the packet has */
+    size_t given;     /* how many of its last blocks are given, the primary among them */
+    size_t from;      /* their bytes are those of the packet from here */
+    size_t to;        /* up to here */
+};
+
+#define STEWPIGEON_STEP_SIZE 40
+
+/* What a sender was opened with. */
+struct stewpigeon_settings {
+    size_t level;       /* the number of repeats */
+    uint64_t buffering; /* in ms */
+    uint8_t t140;
+    uint8_t red;
+    uint16_t sequence;  /* of the first packet */
+    uint32_t timestamp; /* at clock 0 */
+    uint32_t source;
+};
+
+/* Text and its time: when its first byte was offered, or when it was sent. */
+struct stewpigeon_block {
+    uint8_t bytes[STEWPIGEON_ROOM];
+    size_t len;
+    uint64_t at;
+};
+
+struct stewpigeon_progress {
+    bool sent;          /* whether a packet was sent */
+    uint64_t last;      /* when the last one was */
+    uint64_t last_text; /* and the last one with text */
+    uint16_t next;      /* the next sequence number */
+};
+
+struct stewpigeon_sender {
+    struct stewpigeon_settings settings;
+    uint64_t clock; /* the latest accepted */
+    struct stewpigeon_block waiting;
+    struct stewpigeon_block blocks[STEWPIGEON_LEVELS]; /* the last ones sent, newest first */
+    size_t count;
+    struct stewpigeon_progress progress;
+};
+
+#define STEWPIGEON_SENDER_SIZE 960
+
+/* Opens a receiver. Answers 0, or 3 and a receiver of all zeros. */
+uint8_t stewpigeon_receiver_open(struct stewpigeon_receiver *receiver, uint8_t t140, uint8_t red);
+
+/*
+ * Gives a packet to the receiver, which moves on in place. Answers 0 where the packet is accepted, late or not; else
+ * the refusal's number, and then the receiver stays as it was.
+ */
+uint8_t stewpigeon_receiver_step(struct stewpigeon_receiver *receiver, const uint8_t *packet, size_t packet_len,
+                                 struct stewpigeon_step *step);
+
+/*
+ * Fills the space from its start with whole loss marks, the smaller of `count` and a third of the space. Answers how
+ * many; the other bytes stay.
+ */
+size_t stewpigeon_write_marks(size_t count, uint8_t *space, size_t space_len);
+
+/* Opens a sender, at clock 0. Answers 0, or 1, 2 or 3 and a sender of all zeros. */
+uint8_t stewpigeon_sender_open(struct stewpigeon_sender *sender, size_t level, uint64_t buffering, uint8_t t140,
+                               uint8_t red, uint16_t sequence, uint32_t timestamp, uint32_t source);
+
+/* Offers text at a clock, in ms since the opening. Answers 0; else the refusal's number, and the sender stays. */
+uint8_t stewpigeon_sender_offer(struct stewpigeon_sender *sender, uint64_t clock, const uint8_t *text, size_t text_len);
+
+/*
+ * Tells the sender the clock. Answers the length of the packet, written to the front of the space, if one is due; 0
+ * where none is; or the refusal's number below 0, and then sender and space stay. Bytes past the packet stay.
+ */
+int64_t stewpigeon_sender_clock(struct stewpigeon_sender *sender, uint64_t clock, uint8_t *space, size_t space_len);
+
+#define STEWPIGEON_READ_NUMBERS 19
+
+/*
+ * Reads a packet by itself. With `expects` 0 any source is accepted, else only `source`. Answers 0 or the refusal's
+ * number. `answer` gets marker, sequence number, timestamp, source, the number of older blocks, where the primary
+ * starts and ends; then time offset, place and length of each of four older blocks, oldest first; all zeros where the
+ * packet is refused. Answers 255 where fewer than 19 numbers are lent, and these stay.
+ */
+uint8_t stewpigeon_read(uint8_t expects, uint32_t source, uint8_t t140, uint8_t red, const uint8_t *packet,
+                        size_t packet_len, uint64_t *answer, size_t answer_len);
+
+/*
+ * Whether bytes are UTF-8: 0, and the number of characters; or 1, and the place of the first byte at which they can no
+ * longer be. Answers 255 where no number is lent.
+ */
+uint8_t stewpigeon_text(const uint8_t *bytes, size_t bytes_len, uint64_t *answer, size_t answer_len);
+
+#ifdef __cplusplus
+}
+#endif
+
+#endif
