@@ -16,7 +16,7 @@ use Rattle.journal.specs.Standing.{textIn, givenOf, giveOf}
 use Rattle.journal.specs.Ready.{standingOf, ready, Gives}
 use Rattle.journal.proofs.Unread.{drop-take}
 use Rattle.journal.proofs.Owed.{marks-length}
-use Rattle.journal.proofs.Written.{wrote}
+use Rattle.packet.proofs.Lent.{wrote}
 use Rattle.journal.proofs.Ready.{facts, holds, text-length}
 
 in-space : (n a m k d : ℕ) → m ≡ min a (n / 3) → k ≡ min (n - m * 3) d → m * 3 + k ≤ n

@@ -3,6 +3,7 @@ pub mod Tests
 pub mod Slices
 pub mod Stores
 pub mod Filled
+pub mod Lent
 pub mod Rows
 pub mod Letters
 pub mod Table

@@ -10,7 +10,8 @@ use Rattle.packet.specs.Arrays.{filled, over}
 use Rattle.sender.specs.Limits.{roomSize}
 use Rattle.sender.specs.State.{bytesOf}
 use Rattle.sender.specs.Offering.{waitingSince, waitingWith}
-use Rattle.sender.proofs.Written.{wrote, over-zeros}
+use Rattle.packet.proofs.Lent.{wrote}
+use Rattle.sender.proofs.Written.{over-zeros}
 
 take-taken : (n : ℕ) (l : List ℕ) → take (length (take n l)) l ≡ take n l
 take-taken zero l = refl

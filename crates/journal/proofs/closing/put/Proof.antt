@@ -1,5 +1,5 @@
 use denote.Ref.{now}
-use Rattle.journal.proofs.Written.{copied}
+use Rattle.packet.proofs.Lent.{copied}
 use borrow.Author.Needs.{needs}
 use Rattle.journal.proofs.closing.put.Statement.{statement}
 use Rattle.journal.proofs.closing.put.Tie as tie

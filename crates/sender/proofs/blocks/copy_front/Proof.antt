@@ -3,7 +3,7 @@ use native.Mathlib.Omega.{arith}
 use lib.ListN.{length, take}
 use lib.Seq.{length-take-le}
 use denote.Ref.{now}
-use Rattle.sender.proofs.Written.{copied}
+use Rattle.packet.proofs.Lent.{copied}
 use borrow.Author.Needs.{needs}
 use Rattle.sender.proofs.blocks.copy_front.Statement.{statement}
 use Rattle.sender.proofs.blocks.copy_front.Tie as tie

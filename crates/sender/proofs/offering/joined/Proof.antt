@@ -3,7 +3,7 @@ use native.Mathlib.Omega.{arith}
 use borrow.Rule.Slice.PartMut.{midOf}
 use denote.Ref.{now}
 use Rattle.sender.specs.Limits.{roomSize}
-use Rattle.sender.proofs.Written.{copied}
+use Rattle.packet.proofs.Lent.{copied}
 use Rattle.sender.proofs.Joined.{joined-is}
 use borrow.Author.Needs.{needs}
 use Rattle.sender.proofs.offering.joined.Statement.{statement}

@@ -11,7 +11,8 @@ use Rattle.packet.specs.Limits.{level}
 use Rattle.packet.specs.Encoding.{headBytes}
 use Rattle.sender.specs.Packets.{repeated}
 use Rattle.sender.specs.Parts.{headsOf, nothing}
-use Rattle.sender.proofs.Written.{Begun, begun-none, begun-room, begun-end, begun-fits, begun-next, begun-last, lent-fits, length-over}
+use Rattle.packet.proofs.Lent.{length-over}
+use Rattle.sender.proofs.Written.{Begun, begun-none, begun-room, begun-end, begun-fits, begun-next, begun-last, lent-fits}
 use Rattle.sender.proofs.Older.{heads-none, heads-last}
 use Rattle.sender.proofs.writing.put_heads.Statement.{statement}
 use Rattle.sender.proofs.writing.put_heads.Tie as tie

@@ -10,7 +10,8 @@ use Rattle.packet.specs.Arrays.{over}
 use Rattle.packet.specs.Limits.{level}
 use Rattle.sender.specs.State.{bytesOf}
 use Rattle.sender.specs.Parts.{textsOf, nothing}
-use Rattle.sender.proofs.Written.{Begun, begun-none, begun-room, begun-fits, begun-next, begun-last, lent-fits, length-over}
+use Rattle.packet.proofs.Lent.{length-over}
+use Rattle.sender.proofs.Written.{Begun, begun-none, begun-room, begun-fits, begun-next, begun-last, lent-fits}
 use Rattle.sender.proofs.Older.{texts-none, texts-last}
 use Rattle.sender.proofs.writing.put_texts.Statement.{statement}
 use Rattle.sender.proofs.writing.put_texts.Tie as tie
