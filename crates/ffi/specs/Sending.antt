@@ -1,5 +1,6 @@
 -- What the sender's exported calls are given, and the clock call's answer as one number.
 use Prim.Native.Nat.{ℕ, _<_, _^_}
+use mathlib.Core.Bool.{Bool, true, false}
 use lib.IntN.{ℤ, pos, negℤ}
 use Rattle.sender.specs.declared.Settings.{Settings}
 use Rattle.sender.specs.Answers.{Answered, refused, quiet, sent}
@@ -26,3 +27,14 @@ abbrev pub codeFits : Answered → Type 0
 codeFits (refused n) = Unit
 codeFits quiet = Unit
 codeFits (sent n) = n < 2 ^ 63
+
+-- whether the clock call only kept the clock, and whether a packet was sent
+abbrev pub isQuiet : Answered → Bool
+isQuiet (refused n) = false
+isQuiet quiet = true
+isQuiet (sent k) = false
+
+abbrev pub isSent : Answered → Bool
+isSent (refused n) = false
+isSent quiet = false
+isSent (sent k) = true

@@ -6,7 +6,7 @@ ghost use Rattle.sender.specs.Answers.{opened, answered};
 ghost use Rattle.sender.specs.Opening.{openingOf};
 ghost use Rattle.sender.specs.Offering.{offerOf};
 ghost use Rattle.sender.specs.Clocking.{clockOf};
-ghost use Rattle.ffi.specs.Sending.{settingsOf, clockCode, codeFits};
+ghost use Rattle.ffi.specs.Sending.{settingsOf, clockCode, codeFits, isQuiet, isSent};
 use crate::number_of;
 use sender::Answer;
 use sender::Opened;
@@ -56,6 +56,26 @@ fn code_of(answer: Answer) -> i64
     }
 }
 
+fn is_quiet(answer: Answer) -> bool
+    ensures { λ r. ⌜ r ≡ isQuiet (answered answer) ⌝ }
+{
+    match answer {
+        Answer::Quiet => true,
+        Answer::Refused(_) => false,
+        Answer::Sent(_) => false,
+    }
+}
+
+fn is_sent(answer: Answer) -> bool
+    ensures { λ r. ⌜ r ≡ isSent (answered answer) ⌝ }
+{
+    match answer {
+        Answer::Sent(_) => true,
+        Answer::Quiet => false,
+        Answer::Refused(_) => false,
+    }
+}
+
 // Opens a sender: 0, or the refusal's number, and then the sender is all zeros.
 #[no_mangle]
 pub extern "C" fn stewpigeon_sender_open(
@@ -91,7 +111,15 @@ pub extern "C" fn stewpigeon_sender_offer(sender: &mut Sender, clock: u64, text:
 pub extern "C" fn stewpigeon_sender_clock(sender: &mut Sender, clock: u64, packet: &mut [u8]) -> i64
     ensures { λ r. ⌜ (r ≡ clockCode (clockOf (now (sender .entry)) clock (now (packet .entry)) .answer)) × (now (sender .exit) ≡ clockOf (now (sender .entry)) clock (now (packet .entry)) .sender) × (now (packet .exit) ≡ clockOf (now (sender .entry)) clock (now (packet .entry)) .lent) ⌝ }
 {
-    let clocked = Sender::clock(*sender, clock, packet);
-    *sender = clocked.sender;
-    code_of(clocked.answer)
+    let answer = Sender::answer(*sender, clock, packet);
+    let code = code_of(answer);
+    if is_quiet(answer) {
+        *sender = Sender::at(*sender, clock);
+        return code;
+    }
+    if is_sent(answer) {
+        *sender = Sender::after(*sender, clock);
+        return code;
+    }
+    code
 }

@@ -1,6 +1,6 @@
 -- What an opening, an offer and a clock call come to, by plain facts.
 use Prim.Native.Nat.{ℕ, _+_, _<_, _≤_}
-use mathlib.Core.Path.{_≡_}
+use mathlib.Core.Path.{_≡_, ap, sym}
 use mathlib.Core.List.{List}
 use mathlib.Core.Bool.{true, false}
 use native.Mathlib.Omega.{arith}
@@ -15,6 +15,7 @@ use Rattle.packet.specs.Utf8.{isText}
 use Rattle.sender.specs.Limits.{roomSize}
 use Rattle.sender.specs.Settings.{bufferingBad, settingsNumber}
 use Rattle.sender.specs.State.{bytesOf, fresh}
+use Rattle.sender.specs.Answers.{ClockResult}
 use Rattle.sender.specs.Opening.{openingRefused, openingOf}
 use Rattle.sender.specs.Offering.{offerRefused, senderWith, offerOf}
 use Rattle.sender.specs.Packets.{due, packetBytes}
@@ -104,3 +105,7 @@ module _ (s : Sender) (t : ℕ) (p : List ℕ) (n : ℕ) (e : n ≡ settingsNumb
         pub clock-sent : length (packetBytes s t) ≤ length p → clockOf s t p ≡ clockSent s t p
         unfolding clockOf
         clock-sent h = rw (← e, ok, le-ltb t (s .clock) later, is-due, le-ltb (length p) (length (packetBytes s t)) h)
+
+-- the answer, and the bytes lent, of a result that is known
+pub answer-of : {r x : ClockResult} → r ≡ x → (x .answer ≡ r .answer) × (x .lent ≡ r .lent)
+answer-of e = (ap (λ (y : ClockResult). y .answer) (sym e), ap (λ (y : ClockResult). y .lent) (sym e))

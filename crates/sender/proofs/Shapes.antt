@@ -11,10 +11,11 @@ use Rattle.packet.specs.Utf8.{isText}
 use Rattle.sender.specs.Limits.{roomSize}
 use Rattle.sender.specs.Settings.{settingsNumber}
 use Rattle.sender.specs.State.{bytesOf}
+use Rattle.sender.specs.Answers
 use Rattle.sender.specs.Answers.{Numbered, ClockResult}
 use Rattle.sender.specs.Offering.{offerRefused, senderWith, offerOf}
-use Rattle.sender.specs.Packets.{due, packetBytes}
-use Rattle.sender.specs.Clocking.{clockRefused, clockQuiet, clockSent, clockOf}
+use Rattle.sender.specs.Packets.{due, packetBytes, afterPacket}
+use Rattle.sender.specs.Clocking.{senderAt, clockRefused, clockQuiet, clockSent, clockOf}
 
 pub data Offer (s : Sender) (t : ℕ) (x : List ℕ) : Numbered → Type 0 where
   refused : (n : ℕ) → Offer s t x (offerRefused s n)
@@ -60,3 +61,29 @@ clock-shape s t p =
     go true e false q true r true u = refused 8
     go true e false q true r false u =
         sent (eqb-true (settingsNumber (s .settings)) 0 e) (ltb-false t (s .clock) q) r (ltb-false (length p) (length (packetBytes s t)) u)
+
+-- the sender behind a clock call, by the call's answer
+module _ (s : Sender) (t : ℕ) (p : List ℕ) where
+  pub refused-stays : (n : ℕ) → clockOf s t p .answer ≡ Answers.refused n → s ≡ clockOf s t p .sender
+  refused-stays n = go (clockOf s t p) (clock-shape s t p)
+    where
+      go : (r : ClockResult) → Clock s t p r → r .answer ≡ Answers.refused n → s ≡ r .sender
+      go r (refused m) e = refl
+      go r (quiet k d) e = cc
+      go r (sent o k d l) e = cc
+
+  pub quiet-keeps : clockOf s t p .answer ≡ Answers.quiet → senderAt s t ≡ clockOf s t p .sender
+  quiet-keeps = go (clockOf s t p) (clock-shape s t p)
+    where
+      go : (r : ClockResult) → Clock s t p r → r .answer ≡ Answers.quiet → senderAt s t ≡ r .sender
+      go r (refused m) e = cc
+      go r (quiet k d) e = refl
+      go r (sent o k d l) e = cc
+
+  pub sent-moves : (n : ℕ) → clockOf s t p .answer ≡ Answers.sent n → afterPacket s t ≡ clockOf s t p .sender
+  sent-moves n = go (clockOf s t p) (clock-shape s t p)
+    where
+      go : (r : ClockResult) → Clock s t p r → r .answer ≡ Answers.sent n → afterPacket s t ≡ r .sender
+      go r (refused m) e = cc
+      go r (quiet k d) e = cc
+      go r (sent o k d l) e = refl

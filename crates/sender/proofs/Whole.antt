@@ -15,8 +15,8 @@ use Rattle.sender.specs.declared.writing.Header.{Header}
 use Rattle.packet.specs.Redundancy
 use Rattle.packet.specs.Reading.{Content}
 use Rattle.packet.specs.Encoding.{markerBit, plainBytes, redundantBytes}
-use Rattle.sender.specs.State.{bytesOf}
-use Rattle.sender.specs.Packets.{carried, due, marker, repeated, contentOf, packetBytes}
+use Rattle.sender.specs.State.{bytesOf, hasText}
+use Rattle.sender.specs.Packets.{carried, taken, anyText, due, marker, repeated, contentOf, packetBytes}
 use Rattle.sender.specs.Parts.{headerOf, olderOf, headsOf, textsOf, nothing, textTotal, packetOf, packetSize}
 use Rattle.sender.proofs.Sizes.{heads-size}
 use Rattle.sender.proofs.Older.{texts-none, texts-more, texts-blocks}
@@ -79,3 +79,6 @@ module _ (s : Sender) (t n : ℕ) (e : n ≡ length (carried s t)) where
   due-is =
       ap (λ (b : Bool). (not (s .progress .sent) || leb (s .settings .buffering) (t - s .progress .last)) && b)
       (ap (λ (l : List Block). ltb 0 (textTotal l + length (bytesOf (s .waiting)))) (sym (carried-front s t n e)) ∙ sym (some-text (bytesOf (s .waiting)) (carried s t)))
+
+pub not-ready : (s : Sender) (t : ℕ) → (not (s .progress .sent) || leb (s .settings .buffering) (t - s .progress .last)) ≡ false → due s t ≡ false
+not-ready s t e = ap (λ (b : Bool). b && (hasText (taken s t) || anyText (carried s t))) e

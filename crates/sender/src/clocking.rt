@@ -1,49 +1,21 @@
 // The clock call.
 ghost use mathlib.Core.Path.{_≡_};
-ghost use mathlib.Core.List.{List, _∷_};
+ghost use mathlib.Core.List.{_∷_};
 ghost use mathlib.Core.Bool.{cond};
 ghost use lib.Dec.{ltb};
-ghost use Prim.Native.Nat.{ℕ, _+_, _%_, _≤_, _<_};
+ghost use Prim.Native.Nat.{_+_, _%_, _≤_, _<_};
 ghost use lib.ListN.{length, take};
 ghost use Rattle.packet.specs.Arrays.{filled, over};
 ghost use Rattle.packet.specs.Limits.{level};
-ghost use Rattle.packet.specs.Refusal.{number};
 ghost use Rattle.sender.specs.State.{bytesOf, blockOf, emptyBlock};
-ghost use Rattle.sender.specs.Answers as Answers;
 ghost use Rattle.sender.specs.Packets.{carried, packetBytes, afterPacket};
-ghost use Rattle.sender.specs.Clocking.{clockRefused, clockQuiet};
-use crate::Answer;
 use crate::Block;
-use crate::Clocked;
 use crate::Progress;
 use crate::Sender;
 use crate::blocks;
 use crate::due;
 use crate::writing;
 use crate::writing::Header;
-use packet::Refusal;
-
-// The sender as it came.
-pub fn refused(sender: Sender, refusal: Refusal) -> Clocked
-    ensures { λ r. ⌜ ((p : List ℕ) → Answers.clocked r p ≡ clockRefused sender p (number refusal)) ⌝ }
-{
-    Clocked {
-        answer: Answer::Refused(refusal),
-        sender,
-    }
-}
-
-// The sender that keeps the clock.
-pub fn quiet(sender: Sender, clock: u64) -> Clocked
-    ensures { λ r. ⌜ ((p : List ℕ) → Answers.clocked r p ≡ clockQuiet sender clock p) ⌝ }
-{
-    let mut next = sender;
-    next.clock = clock;
-    Clocked {
-        answer: Answer::Quiet,
-        sender: next,
-    }
-}
 
 // The first timestamp and the clock, wrapped.
 fn timestamp(first: u32, clock: u64) -> u32
@@ -87,7 +59,7 @@ fn block_of(waiting: Block, clock: u64) -> Block
     }
 }
 
-// The newest block, the first `count` before it, and empty ones.
+// The newest block, the first `count` before it, and empty ones. The level bounds the loop, so that it is unrolled.
 fn shifted(blocks: [Block; Sender::LEVEL], count: usize, newest: Block) -> [Block; Sender::LEVEL]
     requires { ⌜ count + 1 ≤ level ⌝ }
     ensures { λ r. ⌜ (r ≡ filled emptyBlock level (newest ∷ take count blocks)) × (length (take count blocks) ≡ count) ⌝ }
@@ -96,7 +68,10 @@ fn shifted(blocks: [Block; Sender::LEVEL], count: usize, newest: Block) -> [Bloc
     let mut kept = [empty; Sender::LEVEL];
     kept[0] = newest;
     let mut i = 0;
-    while i < count {
+    while i < Sender::LEVEL - 1 {
+        if i == count {
+            return kept;
+        }
         let block = blocks[i];
         i += 1;
         kept[i] = block;
@@ -113,7 +88,7 @@ fn last_text(len: usize, before: u64, clock: u64) -> u64
     before
 }
 
-fn after(sender: Sender, clock: u64) -> Sender
+pub fn after(sender: Sender, clock: u64) -> Sender
     ensures { λ r. ⌜ r ≡ afterPacket sender clock ⌝ }
 {
     let settings = sender.settings;
@@ -140,16 +115,5 @@ fn after(sender: Sender, clock: u64) -> Sender
         blocks,
         count,
         progress,
-    }
-}
-
-// The sender behind a packet of `len` bytes.
-pub fn sent(sender: Sender, clock: u64, len: usize) -> Clocked
-    ensures { λ r. ⌜ ((p : List ℕ) → Answers.clocked r p ≡ record { answer = Answers.sent len; sender = afterPacket sender clock; lent = p }) ⌝ }
-{
-    let sender = after(sender, clock);
-    Clocked {
-        answer: Answer::Sent(len),
-        sender,
     }
 }

@@ -42,40 +42,33 @@ fn is_recent(clock: u64, at: u64) -> bool
     clock - at <= Sender::OLDEST
 }
 
-// How many of the first `most` blocks a packet carries.
-fn run(blocks: [Block; Sender::LEVEL], most: usize, clock: u64) -> usize
-    requires { ⌜ most ≤ level ⌝ }
-    ensures { λ r. ⌜ r ≡ length (recentRun clock (take most blocks)) ⌝ }
-{
-    let mut k = 0;
-    while k < most {
-        let block = blocks[k];
-        if !is_recent(clock, block.at) {
-            return k;
-        }
-        k += 1;
-    }
-    k
+// How many older blocks a packet carries, and the bytes of their texts.
+struct Carried {
+    count: usize,
+    text: usize,
 }
 
-// The bytes of the first `count` texts.
-fn text_total(blocks: [Block; Sender::LEVEL], count: usize) -> usize
-    requires { ⌜ count ≤ level ⌝ }
-    ensures { λ r. ⌜ (r ≡ textTotal (take count blocks)) × (r ≤ roomSize * level) ⌝ }
+// What a packet carries of the first `most` blocks.
+fn run(blocks: [Block; Sender::LEVEL], most: usize, clock: u64) -> Carried
+    requires { ⌜ most ≤ level ⌝ }
+    ensures { λ r. ⌜ (r .count ≡ length (recentRun clock (take most blocks))) × (r .text ≡ textTotal (take (r .count) blocks)) × (r .text ≤ roomSize * level) ⌝ }
 {
-    let mut i = 0;
-    let mut total = 0;
-    while i < count {
-        let block = blocks[i];
+    let mut count = 0;
+    let mut text = 0;
+    while count < most {
+        let block = blocks[count];
+        if !is_recent(clock, block.at) {
+            return Carried { count, text };
+        }
         let len = blocks::text_len(block);
-        total += len;
-        i += 1;
+        text += len;
+        count += 1;
     }
-    total
+    Carried { count, text }
 }
 
 // None was sent yet, or the buffering time has passed since the last.
-fn ready(progress: Progress, buffering: u64, clock: u64) -> bool
+pub fn ready(progress: Progress, buffering: u64, clock: u64) -> bool
     ensures { λ r. ⌜ r ≡ (not (progress .sent) || leb buffering (clock - progress .last)) ⌝ }
 {
     let sent = progress.sent;
@@ -122,8 +115,9 @@ pub fn planned(sender: Sender, clock: u64) -> Plan
     let progress = sender.progress;
     let blocks = sender.blocks;
     let most = least(settings.level, sender.count);
-    let count = run(blocks, most, clock);
-    let older = text_total(blocks, count);
+    let carried = run(blocks, most, clock);
+    let count = carried.count;
+    let older = carried.text;
     let primary = blocks::text_len(sender.waiting);
     let ready = ready(progress, settings.buffering, clock);
     let due = is_due(ready, older, primary);

@@ -7,10 +7,11 @@ mod opening;
 mod writing;
 
 ghost use mathlib.Core.Path.{_≡_};
-ghost use Rattle.sender.specs.Answers.{opened, offered, clocked};
+ghost use Rattle.sender.specs.Answers.{opened, offered, answered, clocked};
 ghost use Rattle.sender.specs.Opening.{openingOf};
 ghost use Rattle.sender.specs.Offering.{offerOf};
-ghost use Rattle.sender.specs.Clocking.{clockOf};
+ghost use Rattle.sender.specs.Packets.{afterPacket};
+ghost use Rattle.sender.specs.Clocking.{senderAt, clockOf};
 use packet::Outcome;
 use packet::Packet;
 use packet::Refusal;
@@ -115,32 +116,73 @@ impl Sender {
         offering::accepted(self, clock, text)
     }
 
+    // The clock call's answer; where a packet is due, it is written to the front of the lent packet.
+    pub fn answer(self, clock: u64, packet: &mut [u8]) -> Answer
+        ensures { λ r. ⌜ (answered r ≡ clockOf self clock (now (packet .entry)) .answer) × (now (packet .exit) ≡ clockOf self clock (now (packet .entry)) .lent) ⌝ }
+    {
+        let settings = self.settings;
+        let outcome = opening::settings_outcome(settings);
+        match outcome {
+            Outcome::Refused(refusal) => return Answer::Refused(refusal),
+            Outcome::Accepted => {}
+        }
+        let accepted = self.clock;
+        if clock < accepted {
+            return Answer::Refused(Refusal::Clock);
+        }
+        let progress = self.progress;
+        if !due::ready(progress, settings.buffering, clock) {
+            return Answer::Quiet;
+        }
+        let plan = due::planned(self, clock);
+        let due = plan.due;
+        if !due {
+            return Answer::Quiet;
+        }
+        let len = plan.len;
+        if packet.len() < len {
+            return Answer::Refused(Refusal::Space);
+        }
+        clocking::put_packet(packet, self, clock, plan.count);
+        Answer::Sent(len)
+    }
+
+    // The sender behind a quiet clock call.
+    pub fn at(self, clock: u64) -> Sender
+        ensures { λ r. ⌜ r ≡ senderAt self clock ⌝ }
+    {
+        let mut next = self;
+        next.clock = clock;
+        next
+    }
+
+    // The sender behind the packet that it sends.
+    pub fn after(self, clock: u64) -> Sender
+        ensures { λ r. ⌜ r ≡ afterPacket self clock ⌝ }
+    {
+        clocking::after(self, clock)
+    }
+
     // Gives the clock: where a packet is due, it is written to the front of the lent packet; where the call is refused, the
     // sender stays as it is.
     pub fn clock(self, clock: u64, packet: &mut [u8]) -> Clocked
         ensures { λ r. ⌜ clocked r (now (packet .exit)) ≡ clockOf self clock (now (packet .entry)) ⌝ }
     {
-        let settings = self.settings;
-        let outcome = opening::settings_outcome(settings);
-        match outcome {
-            Outcome::Refused(refusal) => return clocking::refused(self, refusal),
-            Outcome::Accepted => {}
+        let answer = self.answer(clock, packet);
+        match answer {
+            Answer::Refused(_) => {
+                let sender = self;
+                Clocked { answer, sender }
+            }
+            Answer::Quiet => {
+                let sender = self.at(clock);
+                Clocked { answer, sender }
+            }
+            Answer::Sent(_) => {
+                let sender = self.after(clock);
+                Clocked { answer, sender }
+            }
         }
-        let accepted = self.clock;
-        if clock < accepted {
-            return clocking::refused(self, Refusal::Clock);
-        }
-        let plan = due::planned(self, clock);
-        let due = plan.due;
-        if !due {
-            return clocking::quiet(self, clock);
-        }
-        let len = plan.len;
-        if packet.len() < len {
-            return clocking::refused(self, Refusal::Space);
-        }
-        clocking::put_packet(packet, self, clock, plan.count);
-        clocking::sent(self, clock, len)
     }
 }
 

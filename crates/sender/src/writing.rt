@@ -63,7 +63,8 @@ fn put_head(to: &mut [u8], t140: u8, clock: u64, block: Block)
     bytes::copy(&head, to);
 }
 
-// The headers of the first `count` blocks, the last of them first, and the primary's; their length.
+// The headers of the first `count` blocks, the last of them first, and the primary's; their length. The loop has a fixed number
+// of turns, so that it is unrolled and no block is copied.
 fn put_heads(
     to: &mut [u8],
     t140: u8,
@@ -74,10 +75,13 @@ fn put_heads(
     requires { ⌜ (t140 < 128) × (count ≤ level) × AllRecent clock blocks count × (length (headsOf t140 clock blocks count) ≤ length (now to)) ⌝ }
     ensures { λ r. ⌜ (r ≡ length (headsOf t140 clock blocks count)) × (now (to .exit) ≡ over (headsOf t140 clock blocks count) (now (to .entry))) ⌝ }
 {
-    let mut i = count;
+    let mut i = Sender::LEVEL;
     let mut at = 0;
     while 0 < i {
         i -= 1;
+        if count <= i {
+            continue;
+        }
         let block = blocks[i];
         put_head(&mut to[at..], t140, clock, block);
         at += 4;

@@ -29,8 +29,21 @@ array-set-from-kept c = search needs
 long : (c : tie.Start Inv-loop μ-loop) → length (c .args .t1) ≡ level
 long c = search needs
 
+-- all of them are moved
+whole : (c : tie.At-loop Inv-loop μ-loop) → c .loop .i ≡ c .before .before .args .count
+    → (c .loop .kept ≡ filled emptyBlock level (c .before .before .args .newest ∷ take (c .before .before .args .count) (c .before .before .args .t1))) × (length (take (c .before .before .args .count) (c .before .before .args .t1)) ≡ c .before .before .args .count)
+whole c e =
+    let a = c .before .before .args in
+    (rw (← e) (c .loop .inv .1), length-take-le (a .count) (a .t1) (omega (arith, c .before .before .pre, long (c .before .before))))
+
 loop-holds : tie.Need-loop-holds Inv-loop μ-loop
 loop-holds c = (omega arith, ap (λ (e : Block). set (replicate level e) 0 (c .before .args .newest)) (c .empty .ensures))
+
+sub-loop : tie.Need-sub-loop Inv-loop μ-loop
+sub-loop c = search needs
+
+returns : tie.Need-returns Inv-loop μ-loop
+returns c = whole (c .before .before) (omega arith)
 
 mul-block : tie.Need-mul-block Inv-loop μ-loop
 mul-block c = search needs
@@ -52,15 +65,12 @@ loop-less c = search needs
 
 loop-again : tie.Need-loop-again Inv-loop μ-loop
 loop-again c =
-    let a = c .before .before .before .before .args in
-    let l = c .before .before .loop in
-    (omega arith, shift-more (a .newest) (a .t1) (l .kept) (l .i) nothing (omega (arith, long (c .before .before .before .before))) (omega arith) (l .inv .1))
+    let a = c .before .before .before .before .before .args in
+    let l = c .before .before .before .loop in
+    (omega arith, shift-more (a .newest) (a .t1) (l .kept) (l .i) nothing (omega (arith, long (c .before .before .before .before .before))) (omega arith) (l .inv .1))
 
-returns : tie.Need-returns Inv-loop μ-loop
-returns c =
-    let a = c .before .before .before .args in
-    let e : c .before .loop .i ≡ a .count = omega arith in
-    (rw (← e) (c .before .loop .inv .1), length-take-le (a .count) (a .t1) (omega (arith, long (c .before .before .before))))
+returns-2 : tie.Need-returns-2 Inv-loop μ-loop
+returns-2 c = whole (c .before) (omega arith)
 
 pub shifted-spec : {M : Type 1} → statement M
 shifted-spec =
@@ -71,6 +81,8 @@ shifted-spec =
     empty-requires
     array-set-from-kept
     loop-holds
+    sub-loop
+    returns
     mul-block
     array-copy-out-block
     add-i
@@ -78,4 +90,4 @@ shifted-spec =
     array-set-from-kept-2
     loop-less
     loop-again
-    returns)
+    returns-2)

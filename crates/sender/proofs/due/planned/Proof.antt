@@ -20,16 +20,13 @@ least-requires c κs = search needs
 run-requires : tie.Need-run-requires
 run-requires c κs = search needs
 
-count-is : (c : tie.After-run) → c .run .result ≡ length (carried (c .before .before .before .before .before .args .sender) (c .before .before .before .before .before .args .clock))
+count-is : (c : tie.After-run) → c .run .result .count ≡ length (carried (c .before .before .before .before .before .args .sender) (c .before .before .before .before .before .args .clock))
 count-is c =
     let a = c .before .before .before .before .before .args in
-    c .run .ensures ∙ ap (λ (m : ℕ). length (recentRun (a .clock) (take m (a .sender .blocks)))) (c .before .least .ensures) ∙ sym (carried-count (a .sender) (a .clock))
+    c .run .ensures .0 ∙ ap (λ (m : ℕ). length (recentRun (a .clock) (take m (a .sender .blocks)))) (c .before .least .ensures) ∙ sym (carried-count (a .sender) (a .clock))
 
-few : (c : tie.After-run) → c .run .result ≤ level
+few : (c : tie.After-run) → c .run .result .count ≤ level
 few c = let a = c .before .before .before .before .before .args in omega (arith, c .before .before .before .before .before .pre, count-is c, carried-few (a .sender) (a .clock))
-
-text-total-requires : tie.Need-text-total-requires
-text-total-requires c κs = few c
 
 text-len-requires : tie.Need-text-len-requires
 text-len-requires c κs = search needs
@@ -41,15 +38,15 @@ is-due-requires : tie.Need-is-due-requires
 is-due-requires c κs = search needs
 
 size-requires : tie.Need-size-requires
-size-requires c κs = (few (c .before .before .before .before), c .before .before .before .text-total .ensures .1, c .before .before .text-len .ensures .1)
+size-requires c κs = (few (c .before .before .before), c .before .before .before .run .ensures .2, c .before .before .text-len .ensures .1)
 
 returns : tie.Need-returns
 returns c =
-    let s = c .before .before .before .before .before .before .before .before .before .before .args .sender in
-    let t = c .before .before .before .before .before .before .before .before .before .before .args .clock in
-    let k = c .before .before .before .before .before .run .result in
-    let e = count-is (c .before .before .before .before .before) in
-    let older = c .before .before .before .before .text-total .ensures .0 in
+    let s = c .before .before .before .before .before .before .before .before .before .args .sender in
+    let t = c .before .before .before .before .before .before .before .before .before .args .clock in
+    let k = c .before .before .before .before .run .result .count in
+    let e = count-is (c .before .before .before .before) in
+    let older = c .before .before .before .before .run .ensures .1 in
     let primary = c .before .before .before .text-len .ensures .0 in
     let d = c .before .is-due .ensures ∙ (λ i. c .before .before .ready .ensures i && ltb 0 (older i + primary i)) ∙ due-is s t k e in
     (d, e, c .size .ensures ∙ (λ i. packetSize (s .settings .level) k (older i) (primary i)) ∙ sym (size-is s t k e))
@@ -60,7 +57,6 @@ planned-spec =
     (tie.spec
     least-requires
     run-requires
-    text-total-requires
     text-len-requires
     ready-requires
     is-due-requires
