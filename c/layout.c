@@ -114,7 +114,7 @@ static void receiver_fields(const uint8_t *packet, size_t length)
     EXPECT(told.record.late == 1 && told.record.distance == -1 && told.record.given == 0);
 
     FILLED(told);
-    EXPECT(stewpigeon_receiver_step(&line.record, packet, 11, &told.record) == STEWPIGEON_SHORT);
+    EXPECT(stewpigeon_receiver_step(&line.record, packet, 11, &told.record) == STEWPIGEON_REFUSED_SHORT);
     EXPECT(told.record.late == 0 && told.record.loss == 0 && told.record.distance == 0);
     EXPECT(told.record.older == 0 && told.record.given == 0 && told.record.from == 0 && told.record.to == 0);
 }
@@ -125,9 +125,9 @@ static void zero_records(uint8_t *packet)
     static struct stewpigeon_receiver receiver;
     struct stewpigeon_step step;
 
-    EXPECT(stewpigeon_sender_offer(&sender, 0, (const uint8_t *)"A", 1) == STEWPIGEON_BUFFERING);
-    EXPECT(stewpigeon_sender_clock(&sender, 0, packet, STEWPIGEON_LONGEST) == -STEWPIGEON_BUFFERING);
-    EXPECT(stewpigeon_receiver_step(&receiver, packet, STEWPIGEON_LONGEST, &step) == STEWPIGEON_PAYLOAD_TYPES);
+    EXPECT(stewpigeon_sender_offer(&sender, 0, (const uint8_t *)"A", 1) == STEWPIGEON_REFUSED_BUFFERING);
+    EXPECT(stewpigeon_sender_clock(&sender, 0, packet, STEWPIGEON_LONGEST) == -STEWPIGEON_REFUSED_BUFFERING);
+    EXPECT(stewpigeon_receiver_step(&receiver, packet, STEWPIGEON_LONGEST, &step) == STEWPIGEON_REFUSED_PAYLOAD_TYPES);
 }
 
 static void marks(void)

@@ -21,35 +21,35 @@ extern "C" {
 /* The refusals, by the numbers that calls answer. */
 enum stewpigeon_refusal {
     STEWPIGEON_ACCEPTED = 0,
-    STEWPIGEON_LEVEL = 1,          /* more repeats than STEWPIGEON_LEVELS */
-    STEWPIGEON_BUFFERING = 2,      /* buffering time 0 or above 500 ms */
-    STEWPIGEON_PAYLOAD_TYPES = 3,  /* payload types outside 96 to 127, or equal */
-    STEWPIGEON_WAITING_ROOM = 4,   /* the text does not fit in the waiting room */
-    STEWPIGEON_CLOCK = 5,          /* the clock is below the latest accepted one */
-    STEWPIGEON_TEXT = 6,           /* the text is not UTF-8 */
-    STEWPIGEON_NO_TEXT = 7,        /* the text is empty */
-    STEWPIGEON_SPACE = 8,          /* the space is shorter than the packet that is due */
-    STEWPIGEON_SHORT = 10,         /* a packet under 12 bytes */
-    STEWPIGEON_LONG = 11,          /* a packet over 1,472 bytes */
-    STEWPIGEON_VERSION = 12,       /* the RTP version is not 2 */
-    STEWPIGEON_HEADER = 13,        /* source list or extension pass the packet's end */
-    STEWPIGEON_PADDING = 14,       /* padding count 0, above the payload, or no payload to hold it */
-    STEWPIGEON_PAYLOAD_TYPE = 15,  /* the payload type is neither T140 nor RED */
-    STEWPIGEON_SOURCE = 16,        /* another source than that of the first accepted packet */
-    STEWPIGEON_BLOCK_HEADERS = 17, /* block headers pass the end */
-    STEWPIGEON_BLOCK_COUNT = 18,   /* a fifth older block */
-    STEWPIGEON_BLOCK_TYPE = 19,    /* a block's type is not T140 */
-    STEWPIGEON_BLOCK_LENGTHS = 20, /* the older blocks' lengths pass the end */
-    STEWPIGEON_BLOCK_TEXT = 21,    /* a block is not UTF-8 */
-    STEWPIGEON_NO_SPACE = 255      /* stewpigeon_read, stewpigeon_text: too few numbers lent for the answer */
+    STEWPIGEON_REFUSED_LEVEL = 1,          /* more repeats than STEWPIGEON_LEVELS */
+    STEWPIGEON_REFUSED_BUFFERING = 2,      /* buffering time 0 or above 500 ms */
+    STEWPIGEON_REFUSED_PAYLOAD_TYPES = 3,  /* payload types outside 96 to 127, or equal */
+    STEWPIGEON_REFUSED_WAITING_ROOM = 4,   /* the text does not fit in the waiting room */
+    STEWPIGEON_REFUSED_CLOCK = 5,          /* the clock is below the latest accepted one */
+    STEWPIGEON_REFUSED_TEXT = 6,           /* the text is not UTF-8 */
+    STEWPIGEON_REFUSED_NO_TEXT = 7,        /* the text is empty */
+    STEWPIGEON_REFUSED_SPACE = 8,          /* the space is shorter than the packet that is due */
+    STEWPIGEON_REFUSED_SHORT = 10,         /* a packet under 12 bytes */
+    STEWPIGEON_REFUSED_LONG = 11,          /* a packet over 1,472 bytes */
+    STEWPIGEON_REFUSED_VERSION = 12,       /* the RTP version is not 2 */
+    STEWPIGEON_REFUSED_HEADER = 13,        /* source list or extension pass the packet's end */
+    STEWPIGEON_REFUSED_PADDING = 14,       /* padding count 0, above the payload, or no payload to hold it */
+    STEWPIGEON_REFUSED_PAYLOAD_TYPE = 15,  /* the payload type is neither T140 nor RED */
+    STEWPIGEON_REFUSED_SOURCE = 16,        /* another source than that of the first accepted packet */
+    STEWPIGEON_REFUSED_BLOCK_HEADERS = 17, /* block headers pass the end */
+    STEWPIGEON_REFUSED_BLOCK_COUNT = 18,   /* a fifth older block */
+    STEWPIGEON_REFUSED_BLOCK_TYPE = 19,    /* a block's type is not T140 */
+    STEWPIGEON_REFUSED_BLOCK_LENGTHS = 20, /* the older blocks' lengths pass the end */
+    STEWPIGEON_REFUSED_BLOCK_TEXT = 21,    /* a block is not UTF-8 */
+    STEWPIGEON_NO_SPACE = 255              /* stewpigeon_read, stewpigeon_text: too few numbers lent for the answer */
 };
 
-#define STEWPIGEON_LEVELS 4        /* the highest number of repeats */
+#define STEWPIGEON_LEVELS 4         /* the highest number of repeats */
 #define STEWPIGEON_BUFFERING_MS 300 /* the usual buffering time */
-#define STEWPIGEON_ROOM 160        /* the bytes that a waiting room, and so a block, holds */
-#define STEWPIGEON_SHORTEST 12     /* the shortest packet that is read */
-#define STEWPIGEON_LONGEST 1472    /* and the longest; no packet that is written is longer */
-#define STEWPIGEON_MARK 3          /* the bytes of a loss mark, EF BF BD */
+#define STEWPIGEON_ROOM 160         /* the bytes that a waiting room, and so a block, holds */
+#define STEWPIGEON_SHORTEST 12      /* the shortest packet that is read */
+#define STEWPIGEON_LONGEST 1472     /* and the longest; no packet that is written is longer */
+#define STEWPIGEON_MARK 3           /* the bytes of a loss mark, EF BF BD */
 
 /* A receiver. `expected` is the sequence number that is expected next, once a packet was accepted (`has_source`). */
 struct stewpigeon_receiver {

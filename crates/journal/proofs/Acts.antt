@@ -38,7 +38,7 @@ use Rattle.journal.specs.Ready.{standingOf, ready}
 use Rattle.journal.specs.Acting.{Spare, passed}
 use Rattle.journal.proofs.Unread.{drop-take}
 use Rattle.journal.proofs.Ready.{Fit, facts, holds}
-use Rattle.journal.proofs.Lies.{Within, given-lies}
+use Rattle.receiver.proofs.Lies.{Within, given-lies}
 
 -- a line over the front of p is due
 line-due : (line p : List ℕ) (n : ℕ) → n ≡ length line → take (n - 0) (over line p) ≡ line

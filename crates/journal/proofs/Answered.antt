@@ -14,7 +14,7 @@ use Rattle.journal.specs.declared.Transcript.{Transcript}
 use Rattle.journal.specs.Standing.{Standing, hungry, takeOf, usedOf, marksIn, textIn, givenOf, giveOf, stopOf, finished}
 use Rattle.journal.specs.Ready.{standingOf, ready, readyWith, TakesIf, Taking, GivesIf, Giving}
 use Rattle.journal.specs.Calls.{Call, play, Ran, none, took, gave, stopped, CodeGives}
-use Rattle.journal.proofs.Owed.{marks-length}
+use Rattle.receiver.proofs.MarkStores.{marks-length}
 use Rattle.journal.proofs.Cuts.{cuts}
 use Rattle.journal.proofs.Ready.{does-take, does-give, does-stop, done-is, starts-ready}
 

@@ -17,7 +17,8 @@ use Rattle.journal.specs.Standing.{Standing, start, closed, settled, set
 use Rattle.journal.specs.Calls.{Call, takes, gives, stops, play, Cuts}
 use Rattle.journal.proofs.Told.{told, told-is}
 use Rattle.journal.proofs.Unread.{unread-less, goes-on}
-use Rattle.journal.proofs.Owed.{owed, empty, take-owed, give-owed, stop-owed, marks-length}
+use Rattle.journal.proofs.Owed.{owed, empty, take-owed, give-owed, stop-owed}
+use Rattle.receiver.proofs.MarkStores.{marks-length}
 
 -- any calls
 pub kept : (ks : List Call) (c : Standing) (rest : List ℕ) → owed c rest ≡ play ks c rest .given ++ owed (play ks c rest .standing) (play ks c rest .rest)

@@ -15,7 +15,7 @@ use Rattle.journal.specs.declared.Transcript.{Transcript}
 use Rattle.journal.specs.Standing.{textIn, givenOf, giveOf}
 use Rattle.journal.specs.Ready.{standingOf, ready, Gives}
 use Rattle.journal.proofs.Unread.{drop-take}
-use Rattle.journal.proofs.Owed.{marks-length}
+use Rattle.receiver.proofs.MarkStores.{marks-length}
 use Rattle.packet.proofs.Lent.{wrote}
 use Rattle.journal.proofs.Ready.{facts, holds, text-length}
 

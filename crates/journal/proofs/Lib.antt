@@ -6,7 +6,6 @@ pub mod Cuts
 pub mod Written
 pub mod Lines
 pub mod Ready
-pub mod Lies
 pub mod Acts
 pub mod Uses
 pub mod Gives

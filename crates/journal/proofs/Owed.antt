@@ -19,10 +19,6 @@ use Rattle.journal.specs.Standing.{Standing, closed, settled, settledAt,
 use Rattle.journal.proofs.Told.{told}
 use Rattle.journal.proofs.Unread.{drop-take, unread-short, goes-on}
 
-pub marks-length : (m : ℕ) → length (marks m) ≡ 3 * m
-marks-length zero = refl
-marks-length (suc m) = let e = marks-length m in omega arith
-
 marks-add : (m n : ℕ) → marks m ++ marks n ≡ marks (m + n)
 marks-add zero n = rw (zero-plus n)
   where

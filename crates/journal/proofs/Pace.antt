@@ -14,7 +14,7 @@ use Rattle.records.specs.Bytes.{readTo, unread}
 use Rattle.journal.specs.Transcript.{brokenLine}
 use Rattle.journal.specs.Standing.{Standing, closed, settled, settledAt, waits, after, hungry, takeOf, usedOf, giveOf, givenOf, marksIn, textIn, stopOf}
 use Rattle.journal.specs.Ready.{standingOf, readyWith, TakesIf, Taking, GivesIf, Giving, StopsIf, Stopping}
-use Rattle.journal.proofs.Owed.{marks-length}
+use Rattle.receiver.proofs.MarkStores.{marks-length}
 use Rattle.journal.proofs.Ready.{long-enough, is-ready, text-length}
 
 waits-left : (c : Standing) → waits c .left ≡ c .left

@@ -3,6 +3,7 @@ pub mod Sign
 pub mod Steps
 pub mod Core
 pub mod TextGiven
+pub mod Lies
 pub mod MarkTests
 pub mod MarkStores
 pub mod Advancing

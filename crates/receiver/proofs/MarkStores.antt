@@ -10,7 +10,7 @@ use Rattle.packet.specs.Arrays.{over}
 use Rattle.receiver.specs.Marks.{markBytes, marks}
 use Rattle.packet.proofs.Stores.{sets-append, sets-over, three}
 
-marks-length : (n : ℕ) → length (marks n) ≡ 3 * n
+pub marks-length : (n : ℕ) → length (marks n) ≡ 3 * n
 marks-length zero = refl
 marks-length (suc n) = omega (arith, marks-length n)
 

@@ -7,6 +7,7 @@ use native.Mathlib.Omega.{arith}
 use borrow.Author.Tests.{lt-ltb, le-ltb, eqb-true, eqb-false}
 use lib.Dec.{ltb, eqb}
 use lib.ListN.{length, take, drop, getD, length-drop}
+use lib.Seq.{take-nil}
 use Rattle.records.specs.declared.Part.{Part}
 use Rattle.records.specs.declared.Part.the-variants.{Kind, Types, Length, Piece, Time, Opened, Packet, Ended, Broken}
 use Rattle.packet.specs.Header.{typesBad, be16}
@@ -112,10 +113,6 @@ front [] = (refl, refl)
 front (a ∷ []) = (refl, refl)
 front (a ∷ b ∷ j) = (refl, refl)
 
-take-none : (n : ℕ) → take {A = ℕ} n [] ≡ []
-take-none zero = refl
-take-none (suc n) = refl
-
 at-piece : (n : ℕ) (ps x : List ℕ) (rs : List Record)
     → cond (ltb (length (ps ++ x)) n) (contentsOf (within n (ps ++ x)) rs)
     (cond (zeros (drop n (ps ++ x))) (packet (take n (ps ++ x)) (contentsOf between rs)) breaks)
@@ -179,7 +176,7 @@ module _ (k : ℕ) (agrees : Agrees k) (n : ℕ) (ps : List ℕ) (b : ℕ) (j : 
           → onward (cond x (reading true Broken n ps) (reading true (cond y Packet Kind) m [])) rest
           ≡ cond x breaks (cond y (packet [] (contentsOf between (recordsUpTo k rest))) (contentsOf (within m []) (recordsUpTo k rest)))
       go true y h = refl
-      go false true h = rw (take-none m) (ap (packet []) (agrees true 0 [] rest le (λ e. refl)))
+      go false true h = rw (take-nil m) (ap (packet []) (agrees true 0 [] rest le (λ e. refl)))
       go false false h =
           let some : ltb 0 m ≡ true = lt-ltb 0 m (omega (arith, eqb-false m 0 h)) in
           agrees true m [] rest le (λ e. some ∙ e) ∙ ap (λ (x : Bool). contentsOf (cond x (within m []) between) (recordsUpTo k rest)) some

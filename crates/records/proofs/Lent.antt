@@ -2,7 +2,7 @@
 use Prim.Native.Nat.{ℕ, _+_, _-_, _≤_}
 use mathlib.Core.Path.{_≡_, _∙_, refl, ap, sym}
 use mathlib.Core.List.{List, [], _∷_, _++_, append-assoc, append-nil}
-use mathlib.Core.Bool.{Bool, true, false, cond}
+use mathlib.Core.Bool.{Bool, true, false, cond, true≢false}
 use native.Mathlib.Nat.{le-trans}
 use native.Mathlib.Omega.{arith}
 use borrow.Rule.Slice.PartMut.{putMid, midOf}
@@ -86,9 +86,6 @@ record Grew (n : ℕ) (r : Reading) : Type 0 where
   more : n ≤ length (r .pieces)
   on : Growing r
 
-never : {A : Type 0} → false ≡ true → A
-never e = absurd (let z : _≡_ {A = ℕ} 0 1 = cc in omega arith)
-
 -- behind a whole piece the packet goes on or reading stops
 pub grows-end : (r : Reading) (ps : List ℕ) → Growing (pieced r ps)
 grows-end r ps =
@@ -107,15 +104,15 @@ grows-byte (Piece n) r b h g =
     by-test (Grew (length (r .pieces))) (leb n 1)
     (λ _. record { more = omega arith; on = grows-end r (r .pieces ++ b ∷ []) })
     (λ _. record { more = omega arith; on = refl })
-grows-byte Types r b h g = never h
-grows-byte (Red t140) r b h g = never h
-grows-byte Length r b h g = never h
-grows-byte (Low high) r b h g = never h
-grows-byte (Time n) r b h g = never h
-grows-byte (Opened t140 red) r b h g = never g
-grows-byte Packet r b h g = never g
-grows-byte Ended r b h g = never g
-grows-byte Broken r b h g = never g
+grows-byte Types r b h g = absurd (true≢false (sym h))
+grows-byte (Red t140) r b h g = absurd (true≢false (sym h))
+grows-byte Length r b h g = absurd (true≢false (sym h))
+grows-byte (Low high) r b h g = absurd (true≢false (sym h))
+grows-byte (Time n) r b h g = absurd (true≢false (sym h))
+grows-byte (Opened t140 red) r b h g = absurd (true≢false (sym g))
+grows-byte Packet r b h g = absurd (true≢false (sym g))
+grows-byte Ended r b h g = absurd (true≢false (sym g))
+grows-byte Broken r b h g = absurd (true≢false (sym g))
 
 grows : (r : Reading) (s : List ℕ) → Growing r → length (r .pieces) ≤ length (readTo r s .pieces)
 unfolding readTo
