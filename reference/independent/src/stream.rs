@@ -100,17 +100,13 @@ fn step(
     counts: &mut Counts,
     packet: &[u8],
 ) -> io::Result<()> {
-    match receiver.step(packet) {
-        Answer::Refused(_) => counts.refused += 1,
-        Answer::Late { .. } => counts.late += 1,
-        Answer::Forward(forward) => {
-            counts.packets += 1;
-            counts.lost += u64::from(forward.loss);
-            for _ in 0..forward.loss {
-                stream.write(&MARK)?;
-            }
-            stream.write(forward.text())?;
+    let answer = receiver.step(packet);
+    counts.add(&answer);
+    if let Answer::Forward(forward) = answer {
+        for _ in 0..forward.loss {
+            stream.write(&MARK)?;
         }
+        stream.write(forward.text())?;
     }
     Ok(())
 }

@@ -22,6 +22,21 @@ pub struct Counts {
     pub refused: u64,
 }
 
+impl Counts {
+    /// Counts one answer of the receiver.
+    #[inline]
+    pub fn add(&mut self, answer: &Answer) {
+        match answer {
+            Answer::Refused(_) => self.refused += 1,
+            Answer::Late { .. } => self.late += 1,
+            Answer::Forward(forward) => {
+                self.packets += 1;
+                self.lost += u64::from(forward.loss);
+            }
+        }
+    }
+}
+
 impl Display for Counts {
     fn fmt(&self, f: &mut Formatter<'_>) -> fmt::Result {
         let Counts {
@@ -62,15 +77,11 @@ pub fn text(journal: &journal::Journal) -> (Vec<u8>, Counts) {
         return (text, counts);
     };
     for packet in &journal.packets {
-        match receiver.step(packet) {
-            Answer::Refused(_) => counts.refused += 1,
-            Answer::Late { .. } => counts.late += 1,
-            Answer::Forward(forward) => {
-                counts.packets += 1;
-                counts.lost += u64::from(forward.loss);
-                text.extend(MARK.repeat(forward.loss.into()));
-                text.extend(forward.text());
-            }
+        let answer = receiver.step(packet);
+        counts.add(&answer);
+        if let Answer::Forward(forward) = answer {
+            text.extend(MARK.repeat(forward.loss.into()));
+            text.extend(forward.text());
         }
     }
     (text, counts)
