@@ -86,13 +86,6 @@ struct stewpigeon_settings {
     uint32_t source;
 };
 
-/* Text and its time: when its first byte was offered, or when it was sent. */
-struct stewpigeon_block {
-    uint8_t bytes[STEWPIGEON_ROOM];
-    size_t len;
-    uint64_t at;
-};
-
 struct stewpigeon_progress {
     bool sent;          /* whether a packet was sent */
     uint64_t last;      /* when the last one was */
@@ -100,16 +93,34 @@ struct stewpigeon_progress {
     uint16_t next;      /* the next sequence number */
 };
 
-struct stewpigeon_sender {
+/*
+ * A sender without its texts. These lie in slots of STEWPIGEON_ROOM bytes, used in a circle: text waits in slot `room`,
+ * and the last blocks sent lie in the slots before it, the newest nearest. A `room` past the last slot counts as 0, and
+ * lengths and `count` up to what there is.
+ */
+struct stewpigeon_sender_record {
     struct stewpigeon_settings settings;
-    uint64_t clock; /* the latest accepted */
-    struct stewpigeon_block waiting;
-    struct stewpigeon_block blocks[STEWPIGEON_LEVELS]; /* the last ones sent, newest first */
-    size_t count;
+    uint64_t clock;                  /* the latest accepted */
+    size_t room;                     /* the slot in which text waits, 0 to STEWPIGEON_LEVELS */
+    size_t len;                      /* how many bytes wait there */
+    uint64_t since;                  /* when the first of them was offered */
+    size_t lens[STEWPIGEON_LEVELS];  /* the lengths of the last blocks sent, newest first */
+    uint64_t ats[STEWPIGEON_LEVELS]; /* and when each was sent */
+    size_t count;                    /* how many of them there are */
     struct stewpigeon_progress progress;
 };
 
-#define STEWPIGEON_SENDER_SIZE 960
+#define STEWPIGEON_SENDER_RECORD_SIZE 168
+
+#define STEWPIGEON_TEXTS ((STEWPIGEON_LEVELS + 1) * STEWPIGEON_ROOM) /* the bytes of all slots: 800 */
+
+/* A sender. */
+struct stewpigeon_sender {
+    struct stewpigeon_sender_record record;
+    uint8_t texts[STEWPIGEON_TEXTS];
+};
+
+#define STEWPIGEON_SENDER_SIZE 968
 
 /* Opens a receiver. Answers 0, or 3 and a receiver of all zeros. */
 uint8_t stewpigeon_receiver_open(struct stewpigeon_receiver *receiver, uint8_t t140, uint8_t red);
@@ -127,18 +138,45 @@ uint8_t stewpigeon_receiver_step(struct stewpigeon_receiver *receiver, const uin
  */
 size_t stewpigeon_write_marks(size_t count, uint8_t *space, size_t space_len);
 
+/*
+ * The three calls of a sender, described below, on a record and on texts that lie elsewhere. An opening makes the texts
+ * all zeros, an accepted offer writes its text behind what waits, and nothing else writes to them.
+ */
+uint8_t stewpigeon_sender_open_in(struct stewpigeon_sender_record *record, uint8_t texts[STEWPIGEON_TEXTS],
+                                  size_t level, uint64_t buffering, uint8_t t140, uint8_t red, uint16_t sequence,
+                                  uint32_t timestamp, uint32_t source);
+
+uint8_t stewpigeon_sender_offer_in(struct stewpigeon_sender_record *record, uint8_t texts[STEWPIGEON_TEXTS],
+                                   uint64_t clock, const uint8_t *text, size_t text_len);
+
+int64_t stewpigeon_sender_clock_in(struct stewpigeon_sender_record *record, const uint8_t texts[STEWPIGEON_TEXTS],
+                                   uint64_t clock, uint8_t *space, size_t space_len);
+
 /* Opens a sender, at clock 0. Answers 0, or 1, 2 or 3 and a sender of all zeros. */
-uint8_t stewpigeon_sender_open(struct stewpigeon_sender *sender, size_t level, uint64_t buffering, uint8_t t140,
-                               uint8_t red, uint16_t sequence, uint32_t timestamp, uint32_t source);
+static inline uint8_t stewpigeon_sender_open(struct stewpigeon_sender *sender, size_t level, uint64_t buffering,
+                                             uint8_t t140, uint8_t red, uint16_t sequence, uint32_t timestamp,
+                                             uint32_t source)
+{
+    return stewpigeon_sender_open_in(&sender->record, sender->texts, level, buffering, t140, red, sequence, timestamp,
+                                     source);
+}
 
 /* Offers text at a clock, in ms since the opening. Answers 0; else the refusal's number, and the sender stays. */
-uint8_t stewpigeon_sender_offer(struct stewpigeon_sender *sender, uint64_t clock, const uint8_t *text, size_t text_len);
+static inline uint8_t stewpigeon_sender_offer(struct stewpigeon_sender *sender, uint64_t clock, const uint8_t *text,
+                                              size_t text_len)
+{
+    return stewpigeon_sender_offer_in(&sender->record, sender->texts, clock, text, text_len);
+}
 
 /*
  * Tells the sender the clock. Answers the length of the packet, written to the front of the space, if one is due; 0
  * where none is; or the refusal's number below 0, and then sender and space stay. Bytes past the packet stay.
  */
-int64_t stewpigeon_sender_clock(struct stewpigeon_sender *sender, uint64_t clock, uint8_t *space, size_t space_len);
+static inline int64_t stewpigeon_sender_clock(struct stewpigeon_sender *sender, uint64_t clock, uint8_t *space,
+                                              size_t space_len)
+{
+    return stewpigeon_sender_clock_in(&sender->record, sender->texts, clock, space, space_len);
+}
 
 #define STEWPIGEON_READ_NUMBERS 19
 

@@ -1,39 +1,38 @@
 -- Demand 1.
 use Prim.Native.Nat.{ℕ, suc}
-use mathlib.Core.Path.{_≡_, _∙_, refl, ap}
-use mathlib.Core.List.{List, [], _∷_}
+use mathlib.Core.Path.{_≡_, refl, ap}
+use mathlib.Core.List.{List}
 use mathlib.Core.Bool.{Bool, true, false, cond, not}
 use native.Mathlib.Omega.{arith}
 use lib.Dec.{eqb}
-use Rattle.receiver.specs.declared.Receiver.{Receiver}
-use Rattle.sender.specs.declared.Sender.{Sender}
-use Rattle.sender.specs.declared.Settings.{Settings}
-use Rattle.packet.specs.Limits.{level}
-use Rattle.packet.specs.Header.{typesBad}
-use Rattle.packet.specs.Checks.{Check, checked}
-use Rattle.packet.specs.Reading.{Content, Read, holds, refused, reading}
+use Rattle.base.specs.Checks.{checked}
+use Rattle.packet_spec.specs.Limits.{level}
+use Rattle.packet_spec.specs.Header.{typesBad}
+use Rattle.packet_spec.specs.Reading.{Content, Read, holds, refused, reading}
 use Rattle.delivery.specs.Numbers.{Course, forward, late, courseOf, distance}
-use Rattle.receiver.specs.Opening as receiver
-use Rattle.receiver.specs.Opening.{Opening, freshReceiver, zeroReceiver}
-use Rattle.receiver.specs.Step.{refuses, sourceExpected, stepRead, firstStep, stepBy, stepOf}
-use Rattle.sender.specs.Answers as answers
-use Rattle.sender.specs.Answers.{Numbered, ClockResult}
-use Rattle.sender.specs.Settings.{settingsNumber}
-use Rattle.sender.specs.State.{zeroSender, fresh}
-use Rattle.sender.specs.Opening as sender
-use Rattle.sender.specs.Offering.{offerChecks, offerOf, senderWith, offerRefused}
-use Rattle.sender.specs.Clocking.{clockChecks, senderAt, clockOf, clockRefused}
+use Rattle.receiver_spec.specs.Opening as receiver
+use Rattle.receiver_spec.specs.Opening.{Receiver, Opening, openingRefused, freshReceiver, zeroReceiver}
+use Rattle.receiver_spec.specs.Step.{refuses, sourceExpected, stepRead, firstStep, stepBy, stepOf}
+use Rattle.sender_spec.specs.State.{Settings, Sender, fresh, zeroSender}
+use Rattle.sender_spec.specs.Answers as answers
+use Rattle.sender_spec.specs.Answers.{Numbered, ClockResult}
+use Rattle.sender_spec.specs.Settings.{settingsNumber}
+use Rattle.sender_spec.specs.Opening as sender
+use Rattle.sender_spec.specs.Offering.{offerChecks, offerOf, senderWith, offerRefused}
+use Rattle.sender_spec.specs.Clocking.{clockChecks, senderAt, clockOf, clockRefused}
 use Rattle.demands.specs.Demand1.{Demand1}
-use Rattle.demands.proofs.Passing.{clock-passed, not-due, due-short}
-use Rattle.sender.proofs.Shapes as shapes
-use Rattle.sender.proofs.Shapes.{Offer, Clock, offer-shape, clock-shape}
+use Rattle.base.proofs.InOrder.{checked-of, refused-by}
+use Rattle.sender_spec.proofs.Calls as calls
+use Rattle.sender_spec.proofs.Accepted.{clock-passed}
+use Rattle.sender_spec.proofs.Shapes as shapes
+use Rattle.sender_spec.proofs.Shapes.{Offer, Clock, offer-shape, clock-shape}
 
 receiver-opening : (t140 red n : ℕ) → receiver.openingOf t140 red .number ≡ suc n → receiver.openingOf t140 red .receiver ≡ zeroReceiver
 receiver-opening t140 red n = go (typesBad t140 red)
   where
     go : (b : Bool)
-        → cond {A = Opening} b (record { number = 3; receiver = zeroReceiver }) (record { number = 0; receiver = freshReceiver t140 red }) .number ≡ suc n
-        → cond {A = Opening} b (record { number = 3; receiver = zeroReceiver }) (record { number = 0; receiver = freshReceiver t140 red }) .receiver ≡ zeroReceiver
+        → cond {A = Opening} b (openingRefused 3) (record { number = 0; receiver = freshReceiver t140 red }) .number ≡ suc n
+        → cond {A = Opening} b (openingRefused 3) (record { number = 0; receiver = freshReceiver t140 red }) .receiver ≡ zeroReceiver
     go true e = refl
     go false e = absurd (omega arith)
 
@@ -49,7 +48,7 @@ sender-opening x n = go (eqb (settingsNumber x) 0)
 
 -- an answer to an accepted packet is no refusal
 accepted-not : (r : Receiver) (p : List ℕ) (c : Content) (n : ℕ) → stepRead r p (holds c) .answer ≡ refuses n → ⊥
-accepted-not r p c n = by (r .«has_source») (courseOf (distance (c .sequence) (r .expected)))
+accepted-not r p c n = by (r .hasSource) (courseOf (distance (c .sequence) (r .expected)))
   where
     by : (h : Bool) (v : Course) → cond h (stepBy v r p c (distance (c .sequence) (r .expected))) (firstStep r p c) .answer ≡ refuses n → ⊥
     by true forward e = let z : _≡_ {A = ℕ} 0 1 = cc in omega arith
@@ -66,16 +65,7 @@ step-refused r p n e = ap (λ (x : Read). stepRead r p x .receiver) (step-is r p
 
 offer-number : (s : Sender) (t : ℕ) (x : List ℕ) → offerOf s t x .number ≡ checked (λ n. n) (offerChecks s t x) 0
 unfolding offerOf
-offer-number s t x = go (offerChecks s t x)
-  where
-    go : (cs : List Check) → checked (offerRefused s) cs (record { number = 0; sender = senderWith s t x }) .number ≡ checked (λ n. n) cs 0
-    go [] = refl
-    go (c ∷ cs) = by (c .applies) (go cs)
-      where
-        by : (b : Bool) → checked (offerRefused s) cs (record { number = 0; sender = senderWith s t x }) .number ≡ checked (λ n. n) cs 0
-            → cond b (offerRefused s (c .number)) (checked (offerRefused s) cs (record { number = 0; sender = senderWith s t x })) .number ≡ cond b (c .number) (checked (λ n. n) cs 0)
-        by true e = refl
-        by false e = e
+offer-number s t x = checked-of (λ (r : Numbered). r .number) (offerRefused s) (offerChecks s t x) (record { number = 0; sender = senderWith s t x })
 
 offer-refused : (s : Sender) (t : ℕ) (x : List ℕ) (n : ℕ) → offerOf s t x .number ≡ suc n → offerOf s t x .sender ≡ s
 offer-refused s t x n = go (offerOf s t x) (offer-shape s t x)
@@ -86,17 +76,7 @@ offer-refused s t x n = go (offerOf s t x) (offer-shape s t x)
 
 clock-number : (s : Sender) (t : ℕ) (p : List ℕ) (n : ℕ) → checked (λ k. k) (clockChecks s t) 0 ≡ suc n → clockOf s t p .answer ≡ answers.refused (suc n)
 unfolding clockOf
-clock-number s t p n = go (clockChecks s t) _
-  where
-    go : (cs : List Check) (x : ClockResult) → checked (λ k. k) cs 0 ≡ suc n → checked (clockRefused s p) cs x .answer ≡ answers.refused (suc n)
-    go [] x e = absurd (omega arith)
-    go (c ∷ cs) x e = by (c .applies) (go cs x) e
-      where
-        by : (b : Bool) → (checked (λ k. k) cs 0 ≡ suc n → checked (clockRefused s p) cs x .answer ≡ answers.refused (suc n))
-            → cond b (c .number) (checked (λ k. k) cs 0) ≡ suc n
-            → cond b (clockRefused s p (c .number)) (checked (clockRefused s p) cs x) .answer ≡ answers.refused (suc n)
-        by true f e = ap answers.refused e
-        by false f e = f e
+clock-number s t p n e = ap (λ (r : ClockResult). r .answer) (refused-by (clockRefused s p) (clockChecks s t) _ (suc n) (omega arith) e)
 
 clock-refused : (s : Sender) (t : ℕ) (p : List ℕ) (n : ℕ) → clockOf s t p .answer ≡ answers.refused n → (clockOf s t p .sender ≡ s) × (clockOf s t p .lent ≡ p)
 clock-refused s t p n = go (clockOf s t p) (clock-shape s t p)
@@ -124,8 +104,12 @@ demand-1 = record {
   offer-number = offer-number;
   offer-refused = offer-refused;
   clock-number = clock-number;
-  clock-not-due = λ s t p e d. ap (λ (r : ClockResult). r .answer) (clock-passed s t p e ∙ not-due s t p d);
-  clock-space = λ s t p e d h. ap (λ (r : ClockResult). r .answer) (clock-passed s t p e ∙ due-short s t p d h);
+  clock-not-due = λ s t p e d.
+      let o = clock-passed s t e in
+      ap (λ (r : ClockResult). r .answer) (calls.clock-quiet s t p (settingsNumber (s .settings)) refl (o .0) (o .1) d);
+  clock-space = λ s t p e d h.
+      let o = clock-passed s t e in
+      ap (λ (r : ClockResult). r .answer) (calls.clock-8 s t p (settingsNumber (s .settings)) refl (o .0) (o .1) d h);
   clock-refused = clock-refused;
   clock-quiet = clock-quiet;
   zero-receiver = λ p. refl;

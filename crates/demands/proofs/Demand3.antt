@@ -2,37 +2,30 @@
 use Prim.Native.Nat.{ℕ, zero, suc, _+_, _-_, _≤_, _<_}
 use mathlib.Core.Path.{_≡_, _∙_, refl, ap, sym, subst}
 use mathlib.Core.List.{List, [], _∷_, _++_, map}
-use mathlib.Core.Bool.{Bool, true, false, cond, not, _||_, _&&_}
+use mathlib.Core.Bool.{Bool, true, false, not, _||_, _&&_}
 use native.Mathlib.Nat.{add-zero, zero-add, le-refl}
 use native.Mathlib.Omega.{arith}
-use lib.Dec.{ltb, leb, eqb}
+use lib.Dec.{ltb, leb}
 use lib.ListN.{length, getD, List·getD-eq-default, length-map}
-use borrow.Author.Tests.{ltb-true, ltb-false, leb-true, eqb-true}
-use Rattle.packet.specs.declared.Expected.the-variants.{Any}
-use Rattle.sender.specs.declared.Sender.{Sender}
-use Rattle.sender.specs.declared.Settings.{Settings}
-use Rattle.sender.specs.declared.Progress.{Progress}
-use Rattle.packet.specs.Limits.{level}
-use Rattle.packet.specs.Header.{typesBad}
-use Rattle.packet.specs.Reading.{Content, holds, refused, headsOf, blocksRead, reading}
+use borrow.Author.Tests.{ltb-true, ltb-false, leb-true}
+use Rattle.packet_spec.specs.Limits.{level}
+use Rattle.packet_spec.specs.Header.{Any, typesBad}
+use Rattle.packet_spec.specs.Reading.{Content, holds, refused, reading}
 use Rattle.delivery.specs.Numbers.{wrapped}
 use Rattle.delivery.specs.Run.{Rules}
-use Rattle.receiver.specs.Opening as receiver
-use Rattle.sender.specs.Settings.{settingsNumber}
-use Rattle.sender.specs.State.{fresh}
-use Rattle.sender.specs.Answers.{Numbered}
-use Rattle.sender.specs.Opening.{openingRefused, openingOf}
+use Rattle.sender_spec.specs.State.{Block, Settings, Progress, Sender, fresh}
+use Rattle.sender_spec.specs.Settings.{settingsNumber}
 use Rattle.demands.specs.AnySender.{IsPacket, KeepsRules}
 use Rattle.demands.specs.Sending.{Call, Written, writes, after, written, finally}
 use Rattle.demands.specs.Demand2.{ReadBack}
 use Rattle.demands.specs.Demand3.{packetAt, SpacedAfter, OursKeeps, Demand3}
-use Rattle.packet.proofs.Order.{gives-10}
-use Rattle.sender.proofs.Good.{fresh-good}
-use Rattle.sender.proofs.Passed.{settings-good}
+use Rattle.base.proofs.Maps.{getD-map-inside}
+use Rattle.sender_spec.proofs.Good.{fresh-good}
+use Rattle.sender_spec.proofs.Passed.{settings-good}
+use Rattle.sender_spec.proofs.Accepted.{open-passed}
 use Rattle.demands.proofs.AnySender.{any-sender}
-use Rattle.demands.proofs.Log.{Sent}
-use Rattle.demands.proofs.Follow.{entryOf, Move, still, moved, sends, move, entries, rises, rules, At, Packets, follow}
-use Rattle.demands.proofs.Demand2.{opened-fresh, good-back}
+use Rattle.demands.proofs.Follow.{blockOf, Move, still, moved, sends, move, logFrom, rises, rules, At, Packets, follow}
+use Rattle.demands.proofs.Demand2.{good-back}
 
 -- packets leave at least the buffering time apart
 spaced : (cs : List Call) (s : Sender) → SpacedAfter (s .progress .sent) (s .progress .last) (s .settings .buffering) (written s cs)
@@ -63,18 +56,13 @@ spaced (c ∷ cs) s = go (after s c) (writes s c) (move s c) (spaced cs (after s
 nothing-read : (t140 red : ℕ) (c : Content) → typesBad t140 red ≡ false → reading level Any t140 red [] ≡ holds c → ⊥
 unfolding reading
 nothing-read t140 red c types e =
-    let r : reading level Any t140 red [] ≡ refused 10 = gives-10 Any t140 red [] (blocksRead [] (headsOf level t140 [])) types (omega arith) in
+    let r : reading level Any t140 red [] ≡ refused 10 = rw types in
     let q : refused 10 ≡ holds c = sym r ∙ e in
     let z : _≡_ {A = ℕ} 0 1 = cc in
     omega arith
 
 -- element k of lists of packets that are the sender's, and that are read back
-pick : {A : Type 0} (g : Written → A) (ws : List Written) (k : ℕ) (d : Written) (a : A) → k < length ws → getD (map g ws) k a ≡ g (getD ws k d)
-pick g [] k d a h = absurd (omega arith)
-pick g (w ∷ ws) zero d a h = refl
-pick g (w ∷ ws) (suc k) d a h = pick g ws k d a (omega arith)
-
-module _ (R : ℕ) (small : R ≤ level) (first : ℕ) (f : ℕ → Sent) (f-rises : (k : ℕ) → f k .at ≤ f (suc k) .at) where
+module _ (R : ℕ) (small : R ≤ level) (first : ℕ) (f : ℕ → Block) (f-rises : (k : ℕ) → f k .at ≤ f (suc k) .at) where
   packet-at : (ws : List Written) (n k : ℕ) (d : Written) → Packets R small first f f-rises n ws → k < length ws
       → IsPacket (rules R small first f f-rises) (n + k) (getD ws k d .content)
   packet-at [] n k d h l = absurd (omega arith)
@@ -89,24 +77,16 @@ back-at x [] k d h l = absurd (omega arith)
 back-at x (w ∷ ws) zero d h l = h .0
 back-at x (w ∷ ws) (suc k) d h l = back-at x ws k d (h .1) (omega arith)
 
-opened-good : (x : Settings) → openingOf x .number ≡ 0 → settingsNumber x ≡ 0
-unfolding openingOf
-opened-good x = go (settingsNumber x) (eqb (settingsNumber x) 0) refl
-  where
-    go : (n : ℕ) (b : Bool) → eqb n 0 ≡ b → cond {A = Numbered} (not b) (openingRefused n) (record { number = 0; sender = fresh x }) .number ≡ 0 → n ≡ 0
-    go n true q e = eqb-true n 0 q
-    go n false q e = e
-
 module _ (x : Settings) (calls : List Call) (good : settingsNumber x ≡ 0) where
   abbrev ws : List Written
   ws = written (fresh x) calls
 
   -- past the last packet the log has empty blocks at the last clock
-  abbrev beyond : Sent
-  beyond = record { bytes = []; at = finally (fresh x) calls .clock }
+  abbrev beyond : Block
+  beyond = record { text = []; at = finally (fresh x) calls .clock }
 
-  abbrev log : ℕ → Sent
-  log = entries (fresh x) calls beyond
+  abbrev log : ℕ → Block
+  log = logFrom (fresh x) calls beyond
 
   log-rises : (k : ℕ) → log k .at ≤ log (suc k) .at
   log-rises = rises calls (fresh x) beyond (le-refl (beyond .at))
@@ -137,7 +117,7 @@ module _ (x : Settings) (calls : List Call) (good : settingsNumber x ≡ 0) wher
           let h : k < length ws = ltb-true k (length ws) l in
           let w = getD ws k none in
           let q : reading level Any (x .t140) (x .red) (w .packet) ≡ holds c =
-          ap (reading level Any (x .t140) (x .red)) (sym (pick (λ v. v .packet) ws k none [] h)) ∙ e in
+          ap (reading level Any (x .t140) (x .red)) (sym (getD-map-inside (λ v. v .packet) ws k none [] h)) ∙ e in
           let r : holds (w .content) ≡ holds c = sym (back-at x ws k none (good-back x calls (fresh x) refl (fresh-good x)) h) ∙ q in
           let s : w .content ≡ c = cc in
           subst (IsPacket ours-rules k) s
@@ -156,8 +136,8 @@ module _ (x : Settings) (calls : List Call) (good : settingsNumber x ≡ 0) wher
     rules = ours-rules;
     level-is = refl;
     first-is = refl;
-    block-is = λ k d h. ap (λ (y : Sent). y .bytes) (pick entryOf ws k d beyond h);
-    time-is = λ k d h. ap (λ (y : Sent). y .at) (pick entryOf ws k d beyond h);
+    block-is = λ k d h. ap (λ (y : Block). y .text) (getD-map-inside blockOf ws k d beyond h);
+    time-is = λ k d h. ap (λ (y : Block). y .at) (getD-map-inside blockOf ws k d beyond h);
     keeps = keeps;
     spaced = spaced calls (fresh x);
     recorded = any-sender .recorded (x .t140) (x .red) (rw types) ours-rules (packetAt ws) keeps;
@@ -166,5 +146,7 @@ module _ (x : Settings) (calls : List Call) (good : settingsNumber x ≡ 0) wher
 pub demand-3 : Demand3
 demand-3 = record {
   any-sender = any-sender;
-  ours = λ x calls o. subst (λ (s : Sender). OursKeeps x (written s calls)) (sym (opened-fresh x o)) (ours-keeps x calls (opened-good x o));
+  ours = λ x calls o.
+      let p = open-passed x o in
+      subst (λ (s : Sender). OursKeeps x (written s calls)) (sym (p .1)) (ours-keeps x calls (p .0));
 }

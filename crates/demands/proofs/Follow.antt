@@ -7,34 +7,32 @@ use native.Mathlib.Nat.{add-zero, le-trans, le-refl}
 use native.Mathlib.Omega.{arith}
 use lib.ListN.{length, take, drop, getD}
 use lib.Seq.{take-append-seam}
-use Rattle.sender.specs.declared.Sender.{Sender}
-use Rattle.packet.specs.Limits.{level}
+use Rattle.base.specs.Arrays.{over}
+use Rattle.packet_spec.specs.Limits.{level}
 use Rattle.delivery.specs.Numbers.{wrapped, next}
 use Rattle.delivery.specs.Sending.{range}
 use Rattle.delivery.specs.Run.{runLength, oldestOf, Rules}
-use Rattle.sender.specs.State.{bytesOf, blockOf, keptBlocks}
-use Rattle.sender.specs.Answers.{Numbered, ClockResult}
-use Rattle.sender.specs.Offering.{offerOf, senderWith}
-use Rattle.sender.specs.Packets.{due, packetBytes, carried, taken, contentOf, repeated, left, keptAfter, progressAfter, afterPacket}
-use Rattle.sender.specs.Settings.{settingsNumber}
-use Rattle.sender.specs.Clocking.{clockOf}
-use Rattle.packet.specs.Arrays.{over}
+use Rattle.sender_spec.specs.State.{Block, Sender}
+use Rattle.sender_spec.specs.Answers.{Numbered, ClockResult}
+use Rattle.sender_spec.specs.Offering.{offerOf, senderWith}
+use Rattle.sender_spec.specs.Packets.{due, packetBytes, recentRun, carried, taken, contentOf, repeated, afterPacket}
+use Rattle.sender_spec.specs.Settings.{settingsNumber}
+use Rattle.sender_spec.specs.Clocking.{clockOf}
 use Rattle.demands.specs.AnySender.{IsPacket}
 use Rattle.demands.specs.Sending.{Call, offer, clock, Written, writtenBy, writes, after, written, finally}
 use Rattle.delivery.proofs.Runs.{run-within}
-use Rattle.sender.proofs.Kept.{bytes-of-block, kept-of-sender}
-use Rattle.sender.proofs.Shapes as shapes
-use Rattle.sender.proofs.Shapes.{Offer, Clock, offer-shape, clock-shape}
-use Rattle.demands.proofs.Log.{Sent, sentOf, map-reverse, map-take, down, take-down, keep-down, run-of-kept, reverse-down}
+use Rattle.sender_spec.proofs.Shapes as shapes
+use Rattle.sender_spec.proofs.Shapes.{Offer, Clock, offer-shape, clock-shape}
+use Rattle.demands.proofs.Log.{down, take-down, keep-down, recent-down, reverse-down}
 
--- a packet as an entry of the log
-abbrev pub entryOf : Written → Sent
-entryOf w = record { bytes = w .content .primary; at = w .time }
+-- the block of a packet
+abbrev pub blockOf : Written → Block
+blockOf w = record { text = w .content .primary; at = w .time }
 
 -- what a call can do to a sender, as far as the log goes
 pub data Move (s : Sender) : Sender → List Written → Type 0 where
   still : Move s s []
-  moved : (s₁ : Sender) → s .clock ≤ s₁ .clock → s₁ .settings ≡ s .settings → keptBlocks s₁ ≡ keptBlocks s → s₁ .progress ≡ s .progress → Move s s₁ []
+  moved : (s₁ : Sender) → s .clock ≤ s₁ .clock → s₁ .settings ≡ s .settings → s₁ .kept ≡ s .kept → s₁ .progress ≡ s .progress → Move s s₁ []
   sends : (t : ℕ) (p : List ℕ) → s .clock ≤ t → settingsNumber (s .settings) ≡ 0 → due s t ≡ true → take (length (packetBytes s t)) p ≡ packetBytes s t
       → Move s (afterPacket s t) (record { packet = take (length (packetBytes s t)) p; time = t; content = contentOf s t } ∷ [])
 
@@ -51,31 +49,31 @@ move s (clock t p) = go (clockOf s t p) (clock-shape s t p)
     go r (shapes.quiet a b) = moved _ a refl refl refl
     go r (shapes.sent a b c d) = sends t (over (packetBytes s t) p) b a c (take-append-seam (packetBytes s t) (drop (length (packetBytes s t)) p))
 
--- the log's entries from a sender on: those of the packets written, then d
-abbrev pub entries : Sender → List Call → Sent → ℕ → Sent
-entries s cs d k = getD (map entryOf (written s cs)) k d
+-- the log from a sender on: the blocks of the packets written, then d
+abbrev pub logFrom : Sender → List Call → Block → ℕ → Block
+logFrom s cs d k = getD (map blockOf (written s cs)) k d
 
 -- no time is below the clock before the calls, and times never fall
-low : (cs : List Call) (s : Sender) (d : Sent) → finally s cs .clock ≤ d .at → (k : ℕ) → s .clock ≤ entries s cs d k .at
+low : (cs : List Call) (s : Sender) (d : Block) → finally s cs .clock ≤ d .at → (k : ℕ) → s .clock ≤ logFrom s cs d k .at
 low [] s d h k = h
 low (c ∷ cs) s d h k = go (after s c) (writes s c) (move s c) h (low cs (after s c) d) k
   where
     go : (s₁ : Sender) (ws : List Written) → Move s s₁ ws → finally s₁ cs .clock ≤ d .at
-        → (finally s₁ cs .clock ≤ d .at → (k : ℕ) → s₁ .clock ≤ entries s₁ cs d k .at)
-        → (k : ℕ) → s .clock ≤ getD (map entryOf (ws ++ written s₁ cs)) k d .at
+        → (finally s₁ cs .clock ≤ d .at → (k : ℕ) → s₁ .clock ≤ logFrom s₁ cs d k .at)
+        → (k : ℕ) → s .clock ≤ getD (map blockOf (ws ++ written s₁ cs)) k d .at
     go s₁ ws still h f k = f h k
     go s₁ ws (moved s₂ l a b e) h f k = le-trans l (f h k)
     go s₁ ws (sends t p l x y z) h f zero = l
     go s₁ ws (sends t p l x y z) h f (suc k) = le-trans l (f h k)
 
-pub rises : (cs : List Call) (s : Sender) (d : Sent) → finally s cs .clock ≤ d .at → (k : ℕ) → entries s cs d k .at ≤ entries s cs d (suc k) .at
+pub rises : (cs : List Call) (s : Sender) (d : Block) → finally s cs .clock ≤ d .at → (k : ℕ) → logFrom s cs d k .at ≤ logFrom s cs d (suc k) .at
 rises [] s d h k = le-refl (d .at)
 rises (c ∷ cs) s d h k = go (after s c) (writes s c) (move s c) h (low cs (after s c) d) (rises cs (after s c) d) k
   where
     go : (s₁ : Sender) (ws : List Written) → Move s s₁ ws → finally s₁ cs .clock ≤ d .at
-        → (finally s₁ cs .clock ≤ d .at → (k : ℕ) → s₁ .clock ≤ entries s₁ cs d k .at)
-        → (finally s₁ cs .clock ≤ d .at → (k : ℕ) → entries s₁ cs d k .at ≤ entries s₁ cs d (suc k) .at)
-        → (k : ℕ) → getD (map entryOf (ws ++ written s₁ cs)) k d .at ≤ getD (map entryOf (ws ++ written s₁ cs)) (suc k) d .at
+        → (finally s₁ cs .clock ≤ d .at → (k : ℕ) → s₁ .clock ≤ logFrom s₁ cs d k .at)
+        → (finally s₁ cs .clock ≤ d .at → (k : ℕ) → logFrom s₁ cs d k .at ≤ logFrom s₁ cs d (suc k) .at)
+        → (k : ℕ) → getD (map blockOf (ws ++ written s₁ cs)) k d .at ≤ getD (map blockOf (ws ++ written s₁ cs)) (suc k) d .at
     go s₁ ws still h lo f k = f h k
     go s₁ ws (moved s₂ l a b e) h lo f k = f h k
     go s₁ ws (sends t p l x y z) h lo f zero = lo h 0
@@ -88,73 +86,71 @@ rises-by f r j (suc m) = let e : suc (j + m) ≡ j + suc m = omega arith in subs
 rises-to : (f : ℕ → ℕ) → ((k : ℕ) → f k ≤ f (suc k)) → (j n : ℕ) → j < n → f j ≤ f n
 rises-to f r j n h = let e : j + (n - j) ≡ n = omega arith in subst (λ k. f j ≤ f k) e (rises-by f r j (n - j))
 
-module _ (R : ℕ) (small : R ≤ level) (first : ℕ) (f : ℕ → Sent) (f-rises : (k : ℕ) → f k .at ≤ f (suc k) .at) where
+module _ (R : ℕ) (small : R ≤ level) (first : ℕ) (f : ℕ → Block) (f-rises : (k : ℕ) → f k .at ≤ f (suc k) .at) where
   abbrev pub rules : Rules
-  rules = record { level = R; first = first; block = λ k. f k .bytes; time = λ k. f k .at; time-rises = f-rises }
+  rules = record { level = R; first = first; block = λ k. f k .text; time = λ k. f k .at; time-rises = f-rises }
 
   -- the sender's number is n, and its kept blocks are the last of the log before n
   pub record At (s : Sender) (n : ℕ) : Type 0 where
     pub level-is : s .settings .level ≡ R
     pub next-is : s .progress .next ≡ wrapped (first + n)
-    pub kept-is : map sentOf (keptBlocks s) ≡ down f n level
+    pub kept-is : s .kept ≡ down f n level
+
+  -- what it would carry is the run of the log
+  carried-is : (s : Sender) (n : ℕ) → At s n → carried s (f n .at) ≡ down f n (runLength R (λ k. f k .at) n)
+  carried-is s n a =
+      let k : take (s .settings .level) (s .kept) ≡ down f n R =
+      ap₂ {C = List Block} (λ r bs. take r bs) (a .level-is) (a .kept-is) ∙ take-down f n R level small in
+      ap (recentRun (f n .at)) k ∙ recent-down f (f n .at) R n (λ j h. rises-to (λ i. f i .at) f-rises j n h)
+
+  texts-down : (n m : ℕ) → m ≤ n → map (λ b. b .text) (reverse (down f n m)) ≡ map (λ k. f k .text) (range (n - m) (n - (n - m)))
+  texts-down n m w =
+      let c : n - (n - m) ≡ m = omega arith in
+      ap (map (λ b. b .text)) (reverse-down f n m w)
+      ∙ map-map (λ b. b .text) f (range (n - m) m)
+      ∙ ap (λ i. map (λ k. f k .text) (range (n - m) i)) (sym c)
 
   older-is : (s : Sender) (n : ℕ) → At s n
-      → map (λ b. b .bytes) (contentOf s (f n .at) .older) ≡ map (λ k. f k .bytes) (range (oldestOf R (λ k. f k .at) n) (n - oldestOf R (λ k. f k .at) n))
+      → map (λ b. b .bytes) (contentOf s (f n .at) .older) ≡ map (λ k. f k .text) (range (oldestOf R (λ k. f k .at) n) (n - oldestOf R (λ k. f k .at) n))
   older-is s n a =
-      let t = f n .at in
-      let m = runLength R (λ k. f k .at) n in
-      let w : m ≤ n = run-within (λ k. f k .at) t R n in
-      let c : n - (n - m) ≡ m = omega arith in
-      let bs = take (s .settings .level) (keptBlocks s) in
-      let k : map sentOf bs ≡ down f n R =
-      ap (λ r. map sentOf (take r (keptBlocks s))) (a .level-is) ∙ map-take sentOf R (keptBlocks s) ∙ ap (take R) (a .kept-is) ∙ take-down f n R level small in
-      map-map (λ b. b .bytes) (repeated t) (reverse (carried s t))
-      ∙ map-reverse bytesOf (carried s t)
-      ∙ ap reverse (sym (map-map (λ x. x .bytes) sentOf (carried s t)))
-      ∙ ap (λ l. reverse (map (λ x. x .bytes) l)) (run-of-kept f t R n bs (λ j h. rises-to (λ i. f i .at) f-rises j n h) k)
-      ∙ reverse-down f n m w
-      ∙ ap (λ i. map (λ k. f k .bytes) (range (n - m) i)) (sym c)
+      map-map (λ b. b .bytes) (repeated (f n .at)) (reverse (carried s (f n .at)))
+      ∙ ap (λ l. map (λ b. b .text) (reverse l)) (carried-is s n a)
+      ∙ texts-down n (runLength R (λ k. f k .at) n) (run-within (λ k. f k .at) (f n .at) R n)
 
-  is-packet : (s : Sender) (n t : ℕ) → At s n → f n ≡ record { bytes = taken s t; at = t } → IsPacket rules n (contentOf s t)
+  is-packet : (s : Sender) (n t : ℕ) → At s n → f n ≡ record { text = taken s t; at = t } → IsPacket rules n (contentOf s t)
   is-packet s n t a e =
       let q : f n .at ≡ t = ap (λ x. x .at) e in
       record {
         sequence = a .next-is;
-        primary = sym (ap (λ x. x .bytes) e);
-        older = subst (λ i. map (λ b. b .bytes) (contentOf s i .older) ≡ map (λ k. f k .bytes) (range (oldestOf R (λ k. f k .at) n) (n - oldestOf R (λ k. f k .at) n))) q (older-is s n a);
+        primary = sym (ap (λ x. x .text) e);
+        older = subst (λ i. map (λ b. b .bytes) (contentOf s i .older) ≡ map (λ k. f k .text) (range (oldestOf R (λ k. f k .at) n) (n - oldestOf R (λ k. f k .at) n))) q (older-is s n a);
       }
 
-  kept-after : (s : Sender) (n t : ℕ) → At s n → f n ≡ record { bytes = taken s t; at = t } → map sentOf (keptBlocks (afterPacket s t)) ≡ down f (suc n) level
-  kept-after s n t a e =
-      let b = blockOf (taken s t) t in
-      let x : sentOf b ≡ f n = (λ i. record { bytes = bytes-of-block (taken s t) t i; at = t }) ∙ sym e in
-      ap (map sentOf) (kept-of-sender (s .settings) t (left s t) (keptAfter s t) (progressAfter s t))
-      ∙ map-take sentOf level (b ∷ keptBlocks s)
-      ∙ ap₂ {C = List Sent} (λ y ys. take level (y ∷ ys)) x (a .kept-is)
-      ∙ keep-down f n level
+  kept-after : (s : Sender) (n t : ℕ) → At s n → f n ≡ record { text = taken s t; at = t } → afterPacket s t .kept ≡ down f (suc n) level
+  kept-after s n t a e = ap₂ {C = List Block} (λ y ys. take level (y ∷ ys)) (sym e) (a .kept-is) ∙ keep-down f n level
 
   -- packets that are the sender's from number n on
   abbrev pub Packets : ℕ → List Written → Type 0
   Packets n [] = Unit {0}
   Packets n (w ∷ ws) = IsPacket rules n (w .content) × Packets (suc n) ws
 
-  pub follow : (cs : List Call) (s : Sender) (n : ℕ) (d : Sent) → At s n → ((i : ℕ) → f (n + i) ≡ entries s cs d i) → Packets n (written s cs)
+  pub follow : (cs : List Call) (s : Sender) (n : ℕ) (d : Block) → At s n → ((i : ℕ) → f (n + i) ≡ logFrom s cs d i) → Packets n (written s cs)
   follow [] s n d a g = tt
   follow (c ∷ cs) s n d a g = go (after s c) (writes s c) (move s c) (λ s₁ n₁. follow cs s₁ n₁ d) g
     where
       go : (s₁ : Sender) (ws : List Written) → Move s s₁ ws
-          → ((s₂ : Sender) (n₂ : ℕ) → At s₂ n₂ → ((i : ℕ) → f (n₂ + i) ≡ entries s₂ cs d i) → Packets n₂ (written s₂ cs))
-          → ((i : ℕ) → f (n + i) ≡ getD (map entryOf (ws ++ written s₁ cs)) i d)
+          → ((s₂ : Sender) (n₂ : ℕ) → At s₂ n₂ → ((i : ℕ) → f (n₂ + i) ≡ logFrom s₂ cs d i) → Packets n₂ (written s₂ cs))
+          → ((i : ℕ) → f (n + i) ≡ getD (map blockOf (ws ++ written s₁ cs)) i d)
           → Packets n (ws ++ written s₁ cs)
       go s₁ ws still ih g = ih s n a g
       go s₁ ws (moved s₂ l x y z) ih g =
           ih s₂ n (record {
             level-is = ap (λ q. q .level) x ∙ a .level-is;
             next-is = ap (λ q. q .next) z ∙ a .next-is;
-            kept-is = ap (map sentOf) y ∙ a .kept-is;
+            kept-is = y ∙ a .kept-is;
           }) g
       go s₁ ws (sends t p l x y z) ih g =
-          let e : f n ≡ record { bytes = taken s t; at = t } = ap f (sym (add-zero n)) ∙ g 0 in
+          let e : f n ≡ record { text = taken s t; at = t } = ap f (sym (add-zero n)) ∙ g 0 in
           let q : s .progress .next ≡ wrapped (first + n) = a .next-is in
           let u : next (s .progress .next) ≡ wrapped (first + suc n) = omega arith in (
             is-packet s n t a e,

@@ -2,7 +2,6 @@ pub mod AnySender
 pub mod LineTests
 pub mod Log
 pub mod Follow
-pub mod Passing
 pub mod Demand1
 pub mod Demand2
 pub mod Demand3

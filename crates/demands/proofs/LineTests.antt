@@ -5,18 +5,18 @@ use mathlib.Core.List.{List, [], _∷_, _++_}
 use mathlib.Core.Bool.{true, false}
 use lib.IntN.{ℤ, pos, negsuc}
 use lib.ListN.{replicate}
-use Rattle.packet.specs.declared.Expected.the-variants.{Any}
-use Rattle.receiver.specs.declared.Receiver.{Receiver}
-use Rattle.packet.specs.Limits.{level}
-use Rattle.packet.specs.Redundancy.{headers}
-use Rattle.packet.specs.Reading.{holds, reading}
-use Rattle.receiver.specs.Opening as receiverOpening
-use Rattle.sender.specs.Settings.{settingsNumber}
-use Rattle.sender.specs.Opening.{openingOf}
-use Rattle.sender.specs.Offering.{offerOf}
-use Rattle.sender.specs.Clocking.{clockOf}
-use Rattle.receiver.specs.Step.{Answered, refuses, isLate, gives, stepOf, textGiven}
-use Rattle.sender.proofs.Tables.{offer, clock, accepted, quiet, sent, _answers_, Case, from, CasesHold, opened, A, M, no-M, ago, holding}
+use Rattle.packet_spec.specs.Limits.{level}
+use Rattle.packet_spec.specs.Header.{Any}
+use Rattle.packet_spec.specs.Redundancy.{headers}
+use Rattle.packet_spec.specs.Reading.{holds, reading}
+use Rattle.receiver_spec.specs.Opening as receiverOpening
+use Rattle.receiver_spec.specs.Opening.{Receiver}
+use Rattle.sender_spec.specs.Settings.{settingsNumber}
+use Rattle.sender_spec.specs.Opening.{openingOf}
+use Rattle.sender_spec.specs.Offering.{offerOf}
+use Rattle.sender_spec.specs.Clocking.{clockOf}
+use Rattle.receiver_spec.specs.Step.{Answered, refuses, isLate, gives, stepOf, textGiven}
+use Rattle.sender_spec.proofs.Tables.{offer, clock, accepted, quiet, sent, _answers_, Case, from, CasesHold, opened, A, M, no-M, ago, holding}
 
 -- a receiver, a packet given to it, and what comes of it: the answer, the text, the number expected next
 pub record Row : Type 0 where
@@ -39,7 +39,7 @@ freshlyOpened = receiverOpening.openingOf 98 100 .receiver
 
 -- a receiver of source 0 that expects a number
 abbrev pub expecting : ℕ → Receiver
-expecting n = record { t140 = 98; red = 100; «has_source» = true; source = 0; expected = n }
+expecting n = record { t140 = 98; red = 100; hasSource = true; source = 0; expected = n }
 
 -- a T140 packet, and a RED packet with its older blocks' headers
 abbrev pub plain : ℕ → ℕ → List ℕ → List ℕ

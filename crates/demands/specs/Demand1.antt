@@ -6,21 +6,18 @@ use mathlib.Core.List.{List}
 use mathlib.Core.Logic.{_↔_}
 use mathlib.Core.Bool.{true, false}
 use lib.ListN.{length}
-use Rattle.receiver.specs.declared.Receiver.{Receiver}
-use Rattle.sender.specs.declared.Sender.{Sender}
-use Rattle.sender.specs.declared.Settings.{Settings}
-use Rattle.packet.specs.Limits.{level}
-use Rattle.packet.specs.Checks.{checked}
-use Rattle.packet.specs.Reading.{refused, reading}
-use Rattle.receiver.specs.Opening as receiver
-use Rattle.receiver.specs.Opening.{zeroReceiver}
-use Rattle.receiver.specs.Step.{refuses, sourceExpected, stepOf}
-use Rattle.sender.specs.Answers as answers
-use Rattle.sender.specs.State.{zeroSender}
-use Rattle.sender.specs.Opening as sender
-use Rattle.sender.specs.Offering.{offerChecks, offerOf}
-use Rattle.sender.specs.Packets.{due, packetBytes}
-use Rattle.sender.specs.Clocking.{clockChecks, senderAt, clockOf}
+use Rattle.base.specs.Checks.{checked}
+use Rattle.packet_spec.specs.Limits.{level}
+use Rattle.packet_spec.specs.Reading.{refused, reading}
+use Rattle.receiver_spec.specs.Opening as receiver
+use Rattle.receiver_spec.specs.Opening.{Receiver, zeroReceiver}
+use Rattle.receiver_spec.specs.Step.{refuses, sourceExpected, stepOf}
+use Rattle.sender_spec.specs.State.{Settings, Sender, zeroSender}
+use Rattle.sender_spec.specs.Answers as answers
+use Rattle.sender_spec.specs.Opening as sender
+use Rattle.sender_spec.specs.Offering.{offerChecks, offerOf}
+use Rattle.sender_spec.specs.Packets.{due, packetBytes}
+use Rattle.sender_spec.specs.Clocking.{clockChecks, senderAt, clockOf}
 
 -- a number other than 0 is a refusal's
 pub record Demand1 : Type 0 where

@@ -4,17 +4,16 @@ use mathlib.Core.Path.{_≡_}
 use mathlib.Core.List.{List, [], _∷_}
 use mathlib.Core.Bool.{true}
 use lib.ListN.{length}
-use Rattle.packet.specs.declared.Expected.the-variants.{Any}
-use Rattle.sender.specs.declared.Sender.{Sender}
-use Rattle.sender.specs.declared.Settings.{Settings}
-use Rattle.packet.specs.Arrays.{over}
-use Rattle.packet.specs.Limits.{level}
-use Rattle.packet.specs.Checks.{checked}
-use Rattle.packet.specs.Reading.{holds, reading}
-use Rattle.sender.specs.Answers as answers
-use Rattle.sender.specs.Opening.{openingOf}
-use Rattle.sender.specs.Packets.{due, packetBytes}
-use Rattle.sender.specs.Clocking.{clockChecks, clockOf}
+use Rattle.base.specs.Arrays.{over}
+use Rattle.base.specs.Checks.{checked}
+use Rattle.packet_spec.specs.Limits.{level}
+use Rattle.packet_spec.specs.Header.{Any}
+use Rattle.packet_spec.specs.Reading.{holds, reading}
+use Rattle.sender_spec.specs.State.{Settings, Sender}
+use Rattle.sender_spec.specs.Answers as answers
+use Rattle.sender_spec.specs.Opening.{openingOf}
+use Rattle.sender_spec.specs.Packets.{due, packetBytes}
+use Rattle.sender_spec.specs.Clocking.{clockChecks, clockOf}
 use Rattle.demands.specs.Sending.{Call, Written, written}
 
 -- each packet is accepted by the reader with the sender's payload types, and read back in all its fields: marker, sequence,

@@ -2,13 +2,13 @@
 use Prim.Native.Nat.{ℕ}
 use mathlib.Core.List.{List, [], _∷_, _++_}
 use lib.ListN.{take}
-use Rattle.sender.specs.declared.Sender.{Sender}
-use Rattle.packet.specs.Reading.{Content}
-use Rattle.sender.specs.Answers as answers
-use Rattle.sender.specs.Answers.{Answered}
-use Rattle.sender.specs.Offering.{offerOf}
-use Rattle.sender.specs.Packets.{contentOf}
-use Rattle.sender.specs.Clocking.{clockOf}
+use Rattle.packet_spec.specs.Reading.{Content}
+use Rattle.sender_spec.specs.State.{Sender}
+use Rattle.sender_spec.specs.Answers as answers
+use Rattle.sender_spec.specs.Answers.{Answered}
+use Rattle.sender_spec.specs.Offering.{offerOf}
+use Rattle.sender_spec.specs.Packets.{contentOf}
+use Rattle.sender_spec.specs.Clocking.{clockOf}
 
 -- at a clock: a text, or a clock call with a lent space
 pub data Call : Type 0 where

@@ -1,4 +1,1 @@
-pub mod Codes
-pub mod Lent
 pub mod Outcomes
-pub mod Stores

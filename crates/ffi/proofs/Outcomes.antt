@@ -24,9 +24,9 @@ use Rattle.packet.specs.declared.Outcome.{Outcome}
 use Rattle.packet.specs.Refusal.{outcomeNumber}
 use Rattle.packet.proofs.Outcome as O
 use Rattle.packet.proofs.Outcome.Laws as O′
-use Rattle.ffi.proofs.Lent.{Data, of-enum, of-uint, Known, had, returned}
-use Rattle.ffi.proofs.number_of as number-of
-use Rattle.ffi.proofs.number_of.Symbol.{name as #ffi·number-of}
+use Rattle.base.proofs.Records.{Data, of-enum, of-uint, Known, had, returned}
+use Rattle.boundary.proofs.number_of as number-of
+use Rattle.boundary.proofs.number_of.Symbol.{name as #boundary·number-of}
 
 abbrev pub outcomes : Data
 outcomes = of-enum O.the-type O′.the-laws O′.the-plain tt
@@ -42,10 +42,10 @@ module _ {M : Type 1} (𝓤 : URA M) (H : Heap 𝓤) (A : Atoms 𝓤) (mem : Mem
   asks W x is = qed W [] ∵ nothing ! $ had outcomes ! x is $ fjoin ! $ nothing ! $ join ! $ frame ! $ done !
 
 module _ {M : Type 1} {𝓤 : URA M} {H : Heap 𝓤} {A : Atoms 𝓤} {K : Type 0} {W : Given 𝓤 H A} {Γ : List (Item 𝓤)} {C : Calls 𝓤 H} {Λ : Loops 𝓤 H} {E : Env 𝓤 H} {xs : List Opd} {d : Place} {rest : Body} {q : Post 𝓤 H} where
-  pub numbers : K → (mem : Memory → SProp 𝓤) (run : Routine → Fun 𝓤) → FmC 𝓤 H (W .laws) C → Triple 𝓤 (C #ffi·number-of) (NumberOf 𝓤 H A mem run) → (x : Outcome) → Known outcomes x
+  pub numbers : K → (mem : Memory → SProp 𝓤) (run : Routine → Fun 𝓤) → FmC 𝓤 H (W .laws) C → Triple 𝓤 (C #boundary·number-of) (NumberOf 𝓤 H A mem run) → (x : Outcome) → Known outcomes x
       → Opds K W (raw (NumberOf 𝓤 H A mem run .pre (asked 𝓤 H A mem run x)) ∷ Γ) E xs (outcomes .val x ∷ [])
       → ((n : ℕ) → n ≡ outcomeNumber x → Known (of-uint w8) n → Seq K W Γ (lands C Λ E d (vint w8 n) rest q))
-      → Seq K W Γ (runs C Λ E (seq (call #ffi·number-of xs d) rest) q)
+      → Seq K W Γ (runs C Λ E (seq (call #boundary·number-of xs d) rest) q)
   numbers t mem run fm known x is os k =
       use0 W (raw (NumberOf 𝓤 H A mem run .pre (asked 𝓤 H A mem run x))) (asks 𝓤 H A mem run W x is) $
       calls-at t fm (NumberOf 𝓤 H A mem run) known (asked 𝓤 H A mem run x) os (λ w.

@@ -1,50 +1,19 @@
 -- Calls that are answered as their contracts say give the transcript.
-use Prim.Native.Nat.{ℕ, _+_, _-_, _*_, _≤_, min}
+use Prim.Native.Nat.{ℕ, _≤_}
 use mathlib.Core.Path.{_≡_, _∙_, refl, ap, sym}
 use mathlib.Core.List.{List, [], _++_}
-use mathlib.Core.Bool.{Bool, true, false}
+use mathlib.Core.Bool.{true}
 use native.Mathlib.Omega.{arith}
-use lib.Dec.{eqb}
-use lib.ListN.{length, take, drop, length-append, length-take}
+use lib.ListN.{length, take, drop}
 use lib.Seq.{take-append-seam}
-use Rattle.packet.specs.Arrays.{over}
-use Rattle.packet.proofs.Tests.{by-test}
-use Rattle.receiver.specs.Marks.{marks}
+use Rattle.journal_spec.specs.Contents.{longestPacket}
+use Rattle.base.specs.Arrays.{over}
 use Rattle.journal.specs.declared.Transcript.{Transcript}
-use Rattle.journal.specs.Standing.{Standing, hungry, takeOf, usedOf, marksIn, textIn, givenOf, giveOf, stopOf, finished}
-use Rattle.journal.specs.Ready.{standingOf, ready, readyWith, TakesIf, Taking, GivesIf, Giving}
+use Rattle.journal.specs.Standing.{Standing, takeOf, usedOf, givenOf, giveOf, stopOf, finished}
+use Rattle.journal.specs.Ready.{standingOf, ready}
 use Rattle.journal.specs.Calls.{Call, play, Ran, none, took, gave, stopped, CodeGives}
-use Rattle.receiver.proofs.MarkStores.{marks-length}
 use Rattle.journal.proofs.Cuts.{cuts}
 use Rattle.journal.proofs.Ready.{does-take, does-give, does-stop, done-is, starts-ready}
-
--- a call uses no more than it is lent
-used-within : (c : Standing) (x : List ℕ) → usedOf c x ≤ length x
-unfolding usedOf
-used-within c x =
-    by-test (λ (n : ℕ). n ≤ length x) (hungry c) (λ _. omega (arith, length-take (c .left) x)) (λ _. omega arith)
-
-pub takes-within : (s : Transcript) (p x : List ℕ) (s' : Transcript) (p' : List ℕ) (used : ℕ) → Taking s p x s' p' used → used ≤ length x
-takes-within s p x s' p' used t = go (readyWith s (length p)) t
-  where
-    go : (b : Bool) → TakesIf b s p x s' p' used → used ≤ length x
-    go true k = let e = k .uses in omega (arith, used-within (standingOf s p) x)
-    go false k = let e = k .none in omega arith
-
--- and fills no more
-given-within : (c : Standing) (n : ℕ) → length (givenOf c n) ≤ n
-unfolding givenOf
-given-within c n =
-    rw (length-append (marks (marksIn c n)) (take (textIn c n) (c .text)), marks-length (marksIn c n))
-    (by-test (λ (k : ℕ). 3 * marksIn c n + length (take k (c .text)) ≤ n) (eqb (marksIn c n) (c .marks))
-    (λ _. omega (arith, length-take (min (n - 3 * marksIn c n) (length (c .text))) (c .text))) (λ _. omega arith))
-
-pub gives-within : (s : Transcript) (p x : List ℕ) (s' : Transcript) (x' : List ℕ) (count : ℕ) → Giving s p x s' x' count → count ≤ length x
-gives-within s p x s' x' count t = go (readyWith s (length p)) t
-  where
-    go : (b : Bool) → GivesIf b s p x s' x' count → count ≤ length x
-    go true k = let e = k .counts in omega (arith, given-within (standingOf s p) (length x))
-    go false k = let e = k .none in omega arith
 
 given-front : (g x x' : List ℕ) (n : ℕ) → n ≡ length g → x' ≡ over g x → take n x' ≡ g
 given-front g x x' n e f = (λ i. take (e i) (f i)) ∙ take-append-seam g (drop (length g) x)
@@ -52,17 +21,17 @@ given-front g x x' n e f = (λ i. take (e i) (f i)) ∙ take-append-seam g (drop
 -- where such calls lead
 record Led (ks : List Call) (c : Standing) (rest given : List ℕ) (s' : Transcript) (p' : List ℕ) : Type 0 where
   still : ready s' ≡ true
-  long : 1488 ≤ length p'
+  long : longestPacket ≤ length p'
   gives-all : given ≡ play ks c rest .given
   stands : standingOf s' p' ≡ play ks c rest .standing
 
 led : {s : Transcript} {p rest : List ℕ} {ks : List Call} {given : List ℕ} {s' : Transcript} {p' rest' : List ℕ}
-    → Ran s p rest ks given s' p' rest' → ready s ≡ true → 1488 ≤ length p → Led ks (standingOf s p) rest given s' p'
+    → Ran s p rest ks given s' p' rest' → ready s ≡ true → longestPacket ≤ length p → Led ks (standingOf s p) rest given s' p'
 unfolding play
 led (none s p rest) ok long = record { still = ok; long = long; gives-all = refl; stands = refl }
 led (took s p rest n s₁ p₁ used {ks} {given} {s'} {p'} t l more) ok long =
     let k = does-take s p ok long (take n rest) s₁ p₁ used t in
-    let w : 1488 ≤ length p₁ = omega arith in
+    let w : longestPacket ≤ length p₁ = omega arith in
     let h = led more (k .still) w in
     let e : play ks (standingOf s₁ p₁) (drop used rest) ≡ play ks (takeOf (standingOf s p) (take n rest)) (drop (usedOf (standingOf s p) (take n rest)) rest) =
     λ i. play ks (k .stands i) (drop (k .uses i) rest) in
@@ -82,7 +51,7 @@ led (gave s p rest x s₁ x₁ count {ks} {given} {s'} {p'} t more) ok long =
     }
 led (stopped s p s₁ p₁ {ks} {given} {s'} {p'} t l more) ok long =
     let k = does-stop s p ok long s₁ p₁ t in
-    let w : 1488 ≤ length p₁ = omega arith in
+    let w : longestPacket ≤ length p₁ = omega arith in
     let h = led more (k .still) w in
     let e : play ks (standingOf s₁ p₁) [] ≡ play ks (stopOf (standingOf s p)) [] = ap (λ (c : Standing). play ks c []) (k .stands) in
     record { still = h .still; long = h .long; gives-all = h .gives-all ∙ ap (λ q. q .given) e; stands = h .stands ∙ ap (λ q. q .standing) e }

@@ -7,18 +7,20 @@ use native.Mathlib.Omega.{arith}
 use borrow.Author.Tests.{eqb-true, eqb-false, eq-eqb}
 use lib.Dec.{eqb}
 use lib.ListN.{length, take, drop, length-take, length-append, take-append-drop}
-use Rattle.records.specs.declared.Part.{Part}
-use Rattle.records.specs.declared.Part.the-variants.{Kind, Types, Red, Length, Low, Piece, Time, Opened, Packet, Ended, Broken}
-use Rattle.receiver.specs.Marks.{marks}
-use Rattle.records.specs.Bytes.{Reading, readTo, unread, going, tells}
-use Rattle.records.proofs.Agree.{agree}
-use Rattle.journal.specs.Transcript.{transcript, brokenLine}
-use Rattle.journal.specs.Standing.{Standing, start, closed, settled, settledAt, waits, takeOf, usedOf, hungry, nothingDue, after, giveOf, givenOf, marksIn, textIn, stopOf, finished}
+use Rattle.parts.specs.declared.Part.the-variants.{Broken}
+use Rattle.receiver_spec.specs.Marks.{marks}
+use Rattle.parts.specs.Bytes.{Reading, readTo, unread, going, tells}
+use Rattle.parts.proofs.Agree.{agree}
+use Rattle.journal_spec.specs.Lines.{brokenLine}
+use Rattle.journal_spec.specs.Transcript.{transcript}
+use Rattle.journal.specs.Standing.{Standing, start, closed, settled, takeOf, usedOf, hungry, nothingDue, after, giveOf, givenOf, marksIn, textIn, stopOf, finished}
 use Rattle.journal.specs.Calls.{Call, takes, gives, stops, play, Cuts}
 use Rattle.journal.proofs.Told.{told, told-is}
 use Rattle.journal.proofs.Unread.{unread-less, goes-on}
-use Rattle.journal.proofs.Owed.{owed, empty, take-owed, give-owed, stop-owed}
-use Rattle.receiver.proofs.MarkStores.{marks-length}
+use Rattle.base.proofs.Fronts.{empty}
+use Rattle.journal.proofs.Settled.{waits-at}
+use Rattle.journal.proofs.Owed.{owed, take-owed, give-owed, stop-owed}
+use Rattle.marks.proofs.MarkStores.{marks-length}
 
 -- any calls
 pub kept : (ks : List Call) (c : Standing) (rest : List ℕ) → owed c rest ≡ play ks c rest .given ++ owed (play ks c rest .standing) (play ks c rest .rest)
@@ -52,19 +54,6 @@ kept-from j ks = start-owes j ∙ kept ks start j
 used-some : (c : Standing) (x : List ℕ) → hungry c ≡ true → length (unread (c .reading) (take (c .left) x)) < length (take (c .left) x) → 0 < usedOf c x
 unfolding usedOf
 used-some c x h l = rw h (omega arith)
-
-waits-at : (q : Part) (c : Standing) → going q ≡ true → settledAt q c ≡ waits c
-waits-at Kind c h = refl
-waits-at Types c h = refl
-waits-at (Red a) c h = refl
-waits-at Length c h = refl
-waits-at (Low a) c h = refl
-waits-at (Piece n) c h = refl
-waits-at (Time n) c h = refl
-waits-at (Opened a b) c h = absurd (true≢false (sym h))
-waits-at Packet c h = absurd (true≢false (sym h))
-waits-at Ended c h = absurd (true≢false (sym h))
-waits-at Broken c h = absurd (true≢false (sym h))
 
 -- at the limit reading ends
 none-left : (c : Standing) (r : Reading) (n : ℕ) → going (r .part) ≡ true → n ≡ 0 → hungry (settled (after c r n)) ≡ false

@@ -1,14 +1,11 @@
-pub mod Record
 pub mod Told
 pub mod Unread
+pub mod Settled
 pub mod Owed
 pub mod Cuts
-pub mod Written
-pub mod Lines
 pub mod Ready
 pub mod Acts
 pub mod Uses
 pub mod Gives
 pub mod Answered
 pub mod Pace
-pub mod CaseTests

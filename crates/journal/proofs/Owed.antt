@@ -8,16 +8,17 @@ use borrow.Author.Tests.{eqb-true}
 use lib.Dec.{eqb}
 use lib.ListN.{length, take, drop, take-append-drop}
 use lib.Seq.{take-nil, drop-append-le}
-use Rattle.records.specs.declared.Part.{Part}
-use Rattle.records.specs.declared.Part.the-variants.{Kind, Types, Red, Length, Low, Piece, Time, Opened, Packet, Ended, Broken}
-use Rattle.receiver.specs.Marks.{marks, markBytes}
-use Rattle.records.specs.Contents.{Contents}
-use Rattle.records.specs.Bytes.{Reading, readTo, unread, going, byte, tells, telling, past}
-use Rattle.journal.specs.Transcript.{brokenLine}
+use Rattle.parts.specs.declared.Part.{Part}
+use Rattle.parts.specs.declared.Part.the-variants.{Kind, Types, Red, Length, Low, Piece, Time, Opened, Packet, Ended, Broken}
+use Rattle.receiver_spec.specs.Marks.{marks, markBytes}
+use Rattle.journal_spec.specs.Contents.{Contents}
+use Rattle.parts.specs.Bytes.{Reading, readTo, unread, going, byte, tells, telling, past}
+use Rattle.journal_spec.specs.Lines.{brokenLine}
 use Rattle.journal.specs.Counts.{lineOf}
 use Rattle.journal.specs.Standing.{Standing, closed, settled, settledAt, waits, takeOf, usedOf, hungry, after, giveOf, givenOf, marksIn, stopOf}
 use Rattle.journal.proofs.Told.{told}
-use Rattle.journal.proofs.Unread.{drop-take, unread-short, goes-on}
+use Rattle.base.proofs.Fronts.{empty, take-more, drop-take}
+use Rattle.journal.proofs.Unread.{unread-short, goes-on}
 
 marks-add : (m n : ℕ) → marks m ++ marks n ≡ marks (m + n)
 marks-add zero n = rw (zero-plus n)
@@ -104,11 +105,6 @@ suffix r (b ∷ bs) = go (going (r .part)) (suffix (byte r b) bs)
         rw z h
     go false h = let z : suc (length bs) - suc (length bs) ≡ 0 = omega arith in rw z
 
-take-more : (k : ℕ) (x y : List ℕ) → take k (x ++ y) ≡ take k x ++ take (k - length x) y
-take-more k [] y = let z : k - 0 ≡ k = omega arith in rw (take-nil k, z)
-take-more zero (b ∷ x) y = let z : 0 - suc (length x) ≡ 0 = omega arith in rw z
-take-more (suc k) (b ∷ x) y = let z : suc k - suc (length x) ≡ k - length x = omega arith in rw z (ap (λ (l : List ℕ). b ∷ l) (take-more k x y))
-
 -- what was read and is acted upon owes what is told from there
 module _ (c : Standing) (m : c .marks ≡ 0) (t : c .text ≡ []) (rest : List ℕ) where
   abbrev toldAt : Part → List ℕ
@@ -135,13 +131,6 @@ module _ (c : Standing) (m : c .marks ≡ 0) (t : c .text ≡ []) (rest : List �
   settled-owed Packet e = refl
   settled-owed Ended e = sym (append-nil (lineOf (c .counts)))
   settled-owed Broken e = refl
-
-pub empty : (l : List ℕ) → length l ≡ 0 → l ≡ []
-empty [] h = refl
-empty (a ∷ l) h = absurd (no-suc h)
-  where
-    no-suc : suc (length l) ≡ 0 → ⊥
-    no-suc z = omega arith
 
 less : (a b : ℕ) → a - b ≤ a
 less a b = omega arith

@@ -6,15 +6,16 @@ use mathlib.Core.Bool.{Bool, true, false, cond}
 use native.Mathlib.Omega.{arith}
 use lib.Dec.{eqb}
 use lib.ListN.{length, take, drop, length-take, length-append, length-drop}
-use Rattle.records.specs.declared.Part.{Part}
-use Rattle.records.specs.declared.Part.the-variants.{Kind, Types, Red, Length, Low, Piece, Time, Opened, Packet, Ended, Broken}
+use Rattle.journal_spec.specs.Contents.{longestPacket}
+use Rattle.parts.specs.declared.Part.{Part}
+use Rattle.parts.specs.declared.Part.the-variants.{Kind, Types, Red, Length, Low, Piece, Time, Opened, Packet, Ended, Broken}
 use Rattle.journal.specs.declared.Transcript.{Transcript}
-use Rattle.receiver.specs.Marks.{marks}
-use Rattle.records.specs.Bytes.{readTo, unread}
-use Rattle.journal.specs.Transcript.{brokenLine}
+use Rattle.receiver_spec.specs.Marks.{marks}
+use Rattle.parts.specs.Bytes.{readTo, unread}
+use Rattle.journal_spec.specs.Lines.{brokenLine}
 use Rattle.journal.specs.Standing.{Standing, closed, settled, settledAt, waits, after, hungry, takeOf, usedOf, giveOf, givenOf, marksIn, textIn, stopOf}
 use Rattle.journal.specs.Ready.{standingOf, readyWith, TakesIf, Taking, GivesIf, Giving, StopsIf, Stopping}
-use Rattle.receiver.proofs.MarkStores.{marks-length}
+use Rattle.marks.proofs.MarkStores.{marks-length}
 use Rattle.journal.proofs.Ready.{long-enough, is-ready, text-length}
 
 waits-left : (c : Standing) → waits c .left ≡ c .left
@@ -134,7 +135,7 @@ module _ (s : Transcript) (p x : List ℕ) (s' : Transcript) (x' : List ℕ) (co
       go : (b : Bool) → readyWith s (length p) ≡ b → GivesIf b s p x s' x' count → (amountDue s' ≤ amountDue s) × (0 < count → amountDue s' < amountDue s)
       go true e g =
           let c = standingOf s p in
-          let long : 1488 ≤ length p = long-enough s (length p) e in
+          let long : longestPacket ≤ length p = long-enough s (length p) e in
           let after = g .stands ∙ gives-rest c (length x) in
           let text-left : s' .to - s' .from ≡ length (c .text) - textIn c (length x) =
           sym (text-length s' p (g .still) long) ∙ ap (λ (r : Standing). length (r .text)) after ∙ length-drop (textIn c (length x)) (c .text) in

@@ -8,10 +8,10 @@ use borrow.Author.Tests.{leb-true, leb-false, le-leb, eq-eqb, ne-eqb}
 use lib.Dec.{leb, eqb}
 use lib.ListN.{length, take, drop, length-drop}
 use lib.Seq.{length-take-le}
-use Rattle.records.specs.Contents.{limit}
-use Rattle.records.specs.Bytes.{going}
+use Rattle.journal_spec.specs.Contents.{limit, longestPacket}
+use Rattle.parts.specs.Bytes.{going}
 use Rattle.records.specs.Reading.{sound}
-use Rattle.records.proofs.Sound.{both, and-left, and-right}
+use Rattle.base.proofs.Tests.{both, and-left, and-right}
 use Rattle.journal.specs.declared.Counts.{Counts}
 use Rattle.journal.specs.declared.Transcript.{Transcript}
 use Rattle.journal.specs.Standing.{start, nothingDue, hungry, finished}
@@ -29,7 +29,7 @@ pub record Fit (k : Counts) (read : ℕ) : Type 0 where
 
 pub record Ready (s : Transcript) : Type 0 where
   pub order : s .from ≤ s .to
-  pub inside : s .to ≤ 1488
+  pub inside : s .to ≤ longestPacket
   pub left : s .left ≤ limit
   pub fit : Fit (s .counts) (limit - s .left)
   pub reader : sound (s .reader) ≡ true
@@ -56,7 +56,7 @@ module _ (s : Transcript) where
   pub facts : ready s ≡ true → Ready s
   facts h =
       let a = leb (s .from) (s .to) in
-      let b = leb (s .to) 1488 in
+      let b = leb (s .to) longestPacket in
       let c = leb (s .left) limit in
       let d = countsFit (s .counts) (limit - s .left) in
       let abcd = and-left (a && b && c && d) (sound (s .reader)) h in
@@ -64,7 +64,7 @@ module _ (s : Transcript) where
       let ab = and-left (a && b) c abc in
       record {
         order = leb-true (s .from) (s .to) (and-left a b ab);
-        inside = leb-true (s .to) 1488 (and-right a b ab);
+        inside = leb-true (s .to) longestPacket (and-right a b ab);
         left = leb-true (s .left) limit (and-right (a && b) c abc);
         fit = fit-facts (s .counts) (limit - s .left) (and-right (a && b && c) d abcd);
         reader = and-right (a && b && c && d) (sound (s .reader)) h;
@@ -72,22 +72,22 @@ module _ (s : Transcript) where
 
   pub holds : Ready s → ready s ≡ true
   holds r =
-      both (both (both (both (le-leb (s .from) (s .to) (r .order)) (le-leb (s .to) 1488 (r .inside))) (le-leb (s .left) limit (r .left)))
+      both (both (both (both (le-leb (s .from) (s .to) (r .order)) (le-leb (s .to) longestPacket (r .inside))) (le-leb (s .left) limit (r .left)))
       (fit-holds (s .counts) (limit - s .left) (r .fit))) (r .reader)
 
-  pub long-enough : (n : ℕ) → readyWith s n ≡ true → 1488 ≤ n
-  long-enough n h = leb-true 1488 n (and-left (leb 1488 n) (ready s) h)
+  pub long-enough : (n : ℕ) → readyWith s n ≡ true → longestPacket ≤ n
+  long-enough n h = leb-true longestPacket n (and-left (leb longestPacket n) (ready s) h)
 
   pub is-ready : (n : ℕ) → readyWith s n ≡ true → ready s ≡ true
-  is-ready n h = and-right (leb 1488 n) (ready s) h
+  is-ready n h = and-right (leb longestPacket n) (ready s) h
 
-  pub with-buffer : (n : ℕ) → 1488 ≤ n → ready s ≡ true → readyWith s n ≡ true
-  with-buffer n l h = both (le-leb 1488 n l) h
+  pub with-buffer : (n : ℕ) → longestPacket ≤ n → ready s ≡ true → readyWith s n ≡ true
+  with-buffer n l h = both (le-leb longestPacket n l) h
 
 -- the counts and the reader decide, where all else is well
-module _ (s : Transcript) (n : ℕ) (a : 1488 ≤ n) (b : s .from ≤ s .to) (c : s .to ≤ 1488) (d : s .left ≤ limit) where
+module _ (s : Transcript) (n : ℕ) (a : longestPacket ≤ n) (b : s .from ≤ s .to) (c : s .to ≤ longestPacket) (d : s .left ≤ limit) where
   by-counts : (t : Bool) → countsFit (s .counts) (limit - s .left) ≡ t → readyWith s n ≡ (t && sound (s .reader))
-  by-counts t e = λ i. le-leb 1488 n a i && (le-leb (s .from) (s .to) b i && le-leb (s .to) 1488 c i && le-leb (s .left) limit d i && e i && sound (s .reader))
+  by-counts t e = λ i. le-leb longestPacket n a i && (le-leb (s .from) (s .to) b i && le-leb (s .to) longestPacket c i && le-leb (s .left) limit d i && e i && sound (s .reader))
 
   pub ready-by : (r : Bool) → countsFit (s .counts) (limit - s .left) ≡ true → r ≡ sound (s .reader) → r ≡ readyWith s n
   ready-by r e f = f ∙ sym (by-counts true e)
@@ -117,7 +117,7 @@ module _ (s : Transcript) (p : List ℕ) where
   unready-stops h = subst (λ (b : Bool). StopsIf b s p s p) (sym h) (record { transcript = refl; lent = refl; none = refl })
 
 -- a ready call, lent a buffer that is long enough
-module _ (s : Transcript) (p : List ℕ) (ok : ready s ≡ true) (long : 1488 ≤ length p) where
+module _ (s : Transcript) (p : List ℕ) (ok : ready s ≡ true) (long : longestPacket ≤ length p) where
   pub does-take : (x : List ℕ) (s' : Transcript) (p' : List ℕ) (used : ℕ) → Taking s p x s' p' used → Takes s p x s' p' used
   does-take x s' p' used t = subst (λ (b : Bool). TakesIf b s p x s' p' used) (with-buffer s (length p) long ok) t
 
@@ -138,7 +138,7 @@ none-left f t h = go (leb t f) refl
     go false e = sym (ne-eqb (t - f) 0 (λ z. tie z (leb-false t f e)))
 
 -- the text due lies within the lent buffer
-module _ (s : Transcript) (p : List ℕ) (ok : ready s ≡ true) (long : 1488 ≤ length p) where
+module _ (s : Transcript) (p : List ℕ) (ok : ready s ≡ true) (long : longestPacket ≤ length p) where
   pub text-length : length (take (s .to - s .from) (drop (s .from) p)) ≡ s .to - s .from
   text-length =
       let r = facts s ok in

@@ -7,13 +7,13 @@ use native.Mathlib.Omega.{arith}
 use lib.Dec.{ltb, eqb}
 use lib.ListN.{length, take, drop}
 use Rattle.journal.specs.declared.Counts.{Counts}
-use Rattle.receiver.specs.declared.Receiver.{Receiver}
-use Rattle.packet.specs.Header.{typesBad}
-use Rattle.receiver.specs.Opening.{openingOf, zeroReceiver}
-use Rattle.receiver.specs.Step.{Answered, refuses, isLate, gives, stepOf}
-use Rattle.records.specs.Records.{Record, ending, opening, beginning, piece, time, bad, recordsOf}
-use Rattle.records.specs.Contents.{Contents, opens, packet, ends, breaks, unopened, between, within, zeros, longestPacket, contentsOf, limit, journalOf}
-use Rattle.journal.specs.Transcript.{packetsIn, isWhole, answersOf, printedOf, textOf, isForward, isLateOne, isRefused, howMany, lostIn, countsLine, brokenLine, printed, transcript}
+use Rattle.packet_spec.specs.Header.{typesBad}
+use Rattle.receiver_spec.specs.Opening.{Receiver, openingOf, zeroReceiver}
+use Rattle.receiver_spec.specs.Step.{Answered, refuses, isLate, gives, stepOf}
+use Rattle.journal_spec.specs.Records.{Record, ending, opening, beginning, piece, time, bad, recordsOf}
+use Rattle.journal_spec.specs.Contents.{Contents, opens, packet, ends, breaks, unopened, between, within, zeros, longestPacket, contentsOf, limit, journalOf}
+use Rattle.journal_spec.specs.Lines.{countsLine, brokenLine}
+use Rattle.journal_spec.specs.Transcript.{packetsIn, isWhole, answersOf, printedOf, textOf, isForward, isLateOne, isRefused, howMany, lostIn, printed, transcript}
 use Rattle.journal.specs.Counts.{noCounts, counted, lineOf}
 
 -- what is printed of the contents still to come

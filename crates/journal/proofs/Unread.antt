@@ -6,15 +6,9 @@ use mathlib.Core.Bool.{Bool, true, false, cond, _&&_, true≢false}
 use native.Mathlib.Omega.{arith}
 use lib.ListN.{length, take, drop}
 use lib.Seq.{take-nil}
-use Rattle.records.specs.Bytes.{Reading, readTo, unread, going, byte}
+use Rattle.base.proofs.Tests.{and-left}
+use Rattle.parts.specs.Bytes.{Reading, readTo, unread, going, byte}
 use Rattle.journal.specs.Standing.{Standing, hungry, nothingDue}
-
--- a part of the front is a part of the whole
-pub drop-take : (f n : ℕ) (l : List ℕ) → drop f (take n l) ≡ take (n - f) (drop f l)
-drop-take zero n l = let z : n - 0 ≡ n = omega arith in rw z
-drop-take (suc f) zero l = let z : 0 - suc f ≡ 0 = omega arith in rw z
-drop-take (suc f) (suc n) [] = sym (take-nil (suc n - suc f))
-drop-take (suc f) (suc n) (x ∷ l) = let z : suc n - suc f ≡ n - f = omega arith in rw z (drop-take f n l)
 
 pub unread-short : (r : Reading) (x : List ℕ) → length (unread r x) ≤ length x
 unfolding unread
@@ -38,8 +32,4 @@ stopped-less r [] g h = absurd (true≢false (sym g ∙ h))
 stopped-less r (b ∷ bs) g h = rw g (omega (arith, unread-short (byte r b) bs))
 
 pub goes-on : (c : Standing) → hungry c ≡ true → going (c .reading .part) ≡ true
-goes-on c h = go (going (c .reading .part)) (nothingDue c) h
-  where
-    go : (t u : Bool) → t && u ≡ true → t ≡ true
-    go true u e = refl
-    go false u e = e
+goes-on c h = and-left (going (c .reading .part)) (nothingDue c) h

@@ -6,26 +6,20 @@ use mathlib.Core.Bool.{Bool, true, false, cond}
 use native.Mathlib.Omega.{arith}
 use borrow.Author.Tests.{le-leb}
 use lib.ListN.{length, take, length-take, length-drop}
-use lib.Seq.{take-nil}
-use Rattle.records.specs.declared.Part.the-variants.{Packet, Broken}
+use Rattle.base.proofs.Fronts.{take-min}
+use Rattle.journal_spec.specs.Contents.{longestPacket}
+use Rattle.parts.specs.declared.Part.the-variants.{Packet, Broken}
 use Rattle.records.specs.declared.Reader.{Reader}
-use Rattle.records.specs.Bytes.{Reading, readTo, unread, going}
+use Rattle.parts.specs.Bytes.{Reading, readTo, unread, going}
 use Rattle.records.specs.Reading.{readingOf, ReadAll, ReadIf, Read}
-use Rattle.records.proofs.Sound.{both}
+use Rattle.base.proofs.Tests.{both}
 use Rattle.journal.specs.declared.Transcript.{Transcript}
-use Rattle.journal.specs.Transcript.{brokenLine}
+use Rattle.journal_spec.specs.Lines.{brokenLine}
 use Rattle.journal.specs.Standing.{Standing, closed, settled, after, hungry, usedOf, takeOf, stopOf}
 use Rattle.journal.specs.Ready.{standingOf, ready, Takes, Stops}
 use Rattle.journal.specs.Acting.{Spare}
 use Rattle.journal.proofs.Unread.{stopped-less, goes-on}
 use Rattle.journal.proofs.Ready.{facts, holds}
-
-take-min : (x : List ℕ) (k : ℕ) → take (min (length x) k) x ≡ take k x
-take-min [] k = take-nil (min 0 k) ∙ sym (take-nil k)
-take-min (b ∷ x) zero = let z : min (suc (length x)) 0 ≡ 0 = omega arith in rw z
-take-min (b ∷ x) (suc k) =
-    let z : min (suc (length x)) (suc k) ≡ suc (min (length x) k) = omega arith in
-    rw z (ap (λ (l : List ℕ). b ∷ l) (take-min x k))
 
 take-off : (c : Standing) (x : List ℕ) → hungry c ≡ false → (c ≡ takeOf c x) × (0 ≡ usedOf c x)
 unfolding takeOf usedOf
@@ -51,7 +45,7 @@ pub stops-none : (s : Transcript) (p : List ℕ) → ready s ≡ true → hungry
 stops-none s p ok h = record { still = ok; stands = stop-off (standingOf s p) h }
 
 -- a call of the reader took used bytes of x
-module _ (s : Transcript) (p x : List ℕ) (ok : ready s ≡ true) (long : 1488 ≤ length p) (h : hungry (standingOf s p) ≡ true)
+module _ (s : Transcript) (p x : List ℕ) (ok : ready s ≡ true) (long : longestPacket ≤ length p) (h : hungry (standingOf s p) ≡ true)
     (n : ℕ) (ne : n ≡ min (length x) (s .left)) (r' : Reader) (p' : List ℕ) (used : ℕ) (rd : Read (s .reader) p (take n x) r' p' used) where
   front : take n x ≡ take (s .left) x
   front = ap (λ (k : ℕ). take k x) ne ∙ take-min x (s .left)
@@ -59,7 +53,7 @@ module _ (s : Transcript) (p x : List ℕ) (ok : ready s ≡ true) (long : 1488 
   all : ReadAll (s .reader) p (take (s .left) x) r' p' used
   all =
       subst (λ (l : List ℕ). ReadAll (s .reader) p l r' p' used) front
-      (subst (λ (b : Bool). ReadIf b (s .reader) p (take n x) r' p' used) (both (le-leb 1488 (length p) long) (facts s ok .reader)) rd)
+      (subst (λ (b : Bool). ReadIf b (s .reader) p (take n x) r' p' used) (both (le-leb longestPacket (length p) long) (facts s ok .reader)) rd)
 
   pub used-fits : used ≤ s .left
   used-fits = let i = all .within in omega (arith, length-take (s .left) x)

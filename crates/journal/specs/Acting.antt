@@ -1,8 +1,8 @@
 -- A packet that was read, counted.
 use Prim.Native.Nat.{ℕ, _+_, _-_, _*_, _<_, _≤_}
 use mathlib.Core.Bool.{Bool}
-use Rattle.records.specs.declared.Part.the-variants.{Kind}
-use Rattle.records.specs.Contents.{limit}
+use Rattle.parts.specs.declared.Part.the-variants.{Kind}
+use Rattle.journal_spec.specs.Contents.{limit}
 use Rattle.receiver.specs.declared.Receiver.{Receiver}
 use Rattle.journal.specs.declared.Counts.{Counts}
 use Rattle.journal.specs.declared.Transcript.{Transcript}

@@ -4,10 +4,10 @@ use mathlib.Core.Path.{_≡_}
 use mathlib.Core.Bool.{true, false}
 use mathlib.Core.List.{List, [], _∷_, _++_}
 use lib.ListN.{length, take, drop}
-use Rattle.records.specs.Contents.{longestPacket}
-use Rattle.records.specs.Bytes.{going}
+use Rattle.journal_spec.specs.Contents.{longestPacket}
+use Rattle.parts.specs.Bytes.{going}
 use Rattle.journal.specs.declared.Transcript.{Transcript}
-use Rattle.journal.specs.Transcript.{transcript}
+use Rattle.journal_spec.specs.Transcript.{transcript}
 use Rattle.journal.specs.Standing.{Standing, start, takeOf, usedOf, givenOf, giveOf, stopOf, hungry, nothingDue, finished}
 use Rattle.journal.specs.Ready.{first, Taking, Giving, Stopping, done}
 

@@ -2,8 +2,8 @@
 use Prim.Native.Nat.{ℕ, _+_}
 use mathlib.Core.List.{List}
 use Rattle.journal.specs.declared.Counts.{Counts}
-use Rattle.receiver.specs.Step.{Answered, refuses, isLate, gives}
-use Rattle.journal.specs.Transcript.{countsLine}
+use Rattle.receiver_spec.specs.Step.{Answered, refuses, isLate, gives}
+use Rattle.journal_spec.specs.Lines.{countsLine}
 
 abbrev pub noCounts : Counts
 noCounts = record { packets = 0; late = 0; lost = 0; refused = 0 }

@@ -1,4 +1,3 @@
-pub mod Transcript
 pub mod Counts
 pub mod Standing
 pub mod Ready

@@ -5,10 +5,11 @@ use mathlib.Core.List.{List}
 use mathlib.Core.Bool.{Bool, true, false, _&&_, not}
 use lib.Dec.{leb, eqb}
 use lib.ListN.{length, take, drop}
-use Rattle.packet.specs.Arrays.{over}
-use Rattle.receiver.specs.Opening.{zeroReceiver}
-use Rattle.records.specs.Contents.{limit, longestPacket}
-use Rattle.records.specs.Bytes.{going}
+use Rattle.base.specs.Arrays.{over}
+use Rattle.receiver.specs.declared.Receiver.{Receiver}
+use Rattle.receiver.specs.View.{receiverOf}
+use Rattle.journal_spec.specs.Contents.{limit, longestPacket}
+use Rattle.parts.specs.Bytes.{going}
 use Rattle.records.specs.Reading.{readingOf, sound}
 use Rattle.records.specs.Reading as Reading
 use Rattle.journal.specs.declared.Counts.{Counts}
@@ -16,15 +17,19 @@ use Rattle.journal.specs.declared.Transcript.{Transcript}
 use Rattle.journal.specs.Counts.{noCounts}
 use Rattle.journal.specs.Standing.{Standing, takeOf, usedOf, givenOf, giveOf, stopOf}
 
+-- no receiver is open yet
+abbrev pub noReceiver : Receiver
+noReceiver = record { t140 = 0; red = 0; «has_source» = false; source = 0; expected = 0 }
+
 -- before the first byte
 abbrev pub first : Transcript
-first = record { reader = Reading.start; receiver = zeroReceiver; counts = noCounts; left = limit; marks = 0; from = 0; to = 0 }
+first = record { reader = Reading.start; receiver = noReceiver; counts = noCounts; left = limit; marks = 0; from = 0; to = 0 }
 
 -- the pieces of a packet and the text due lie in the lent buffer
 abbrev pub standingOf : Transcript → List ℕ → Standing
 standingOf s p = record {
   reading = readingOf (s .reader) p;
-  receiver = s .receiver;
+  receiver = receiverOf (s .receiver);
   counts = s .counts;
   left = s .left;
   marks = s .marks;

@@ -1,20 +1,19 @@
 -- Where a transcript stands between calls, and where each call leads.
-use Prim.Native.Nat.{ℕ, _-_, _*_, _/_, min}
+use Prim.Native.Nat.{ℕ, _-_}
 use mathlib.Core.Bool.{Bool, true, cond, _&&_, not}
-use mathlib.Core.List.{List, [], _++_}
+use mathlib.Core.List.{List, []}
 use lib.Dec.{eqb}
 use lib.ListN.{length, take, drop}
-use Rattle.records.specs.declared.Part.{Part}
-use Rattle.records.specs.declared.Part.the-variants.{Kind, Types, Red, Length, Low, Piece, Time, Opened, Packet, Ended, Broken}
-use Rattle.receiver.specs.declared.Receiver.{Receiver}
+use Rattle.parts.specs.declared.Part.{Part}
+use Rattle.parts.specs.declared.Part.the-variants.{Kind, Types, Red, Length, Low, Piece, Time, Opened, Packet, Ended, Broken}
 use Rattle.journal.specs.declared.Counts.{Counts}
-use Rattle.receiver.specs.Opening.{openingOf, zeroReceiver}
-use Rattle.receiver.specs.Step.{stepOf, textGiven}
-use Rattle.receiver.specs.Record.{lossOf}
-use Rattle.receiver.specs.Marks.{marks, markBytes}
-use Rattle.records.specs.Contents.{limit}
-use Rattle.records.specs.Bytes.{Reading, fresh, going, readTo, unread}
-use Rattle.journal.specs.Transcript.{brokenLine}
+use Rattle.receiver_spec.specs.Opening.{Receiver, openingOf, zeroReceiver}
+use Rattle.receiver_spec.specs.Step.{stepOf, textGiven}
+use Rattle.receiver_spec.specs.Record.{lossOf}
+use Rattle.printing.specs.Fitting.{marksFitting, textFitting, dueFitting}
+use Rattle.journal_spec.specs.Contents.{limit}
+use Rattle.parts.specs.Bytes.{Reading, fresh, going, readTo, unread}
+use Rattle.journal_spec.specs.Lines.{brokenLine}
 use Rattle.journal.specs.Counts.{noCounts, counted, lineOf}
 
 -- what was read, the receiver, the counts, how many bytes may still be read, and what is due: marks, then text
@@ -104,13 +103,13 @@ takeOf c x = cond (hungry c) (settled (after c (readTo (c .reading) (take (c .le
 
 -- how many marks and how many bytes of text go into a space of n bytes
 abbrev pub marksIn : Standing → ℕ → ℕ
-marksIn c n = min (c .marks) (n / length markBytes)
+marksIn c n = marksFitting (c .marks) n
 
 abbrev pub textIn : Standing → ℕ → ℕ
-textIn c n = cond (eqb (marksIn c n) (c .marks)) (min (n - length markBytes * marksIn c n) (length (c .text))) 0
+textIn c n = textFitting (c .marks) (c .text) n
 
 unfoldable pub givenOf : Standing → ℕ → List ℕ
-givenOf c n = marks (marksIn c n) ++ take (textIn c n) (c .text)
+givenOf c n = dueFitting (c .marks) (c .text) n
 
 unfoldable pub giveOf : Standing → ℕ → Standing
 giveOf c n = record {

@@ -1,13 +1,12 @@
 // A journal's transcript, from pieces of any size into space of any size.
-mod closing;
-mod giving;
 mod settling;
+mod state;
 mod taking;
 
 ghost use mathlib.Core.Path.{_≡_};
 ghost use mathlib.Core.Bool.{not};
-ghost use Prim.Native.Nat.{_≤_};
-ghost use Rattle.journal.specs.Ready.{first, countsFit, readyWith, Taking, Giving, Stopping, noneDue, done};
+ghost use Rattle.journal.specs.Ready.{first, Taking, Giving, Stopping, noneDue, done};
+use marks::LossMark;
 use receiver::Receiver;
 use records::Reader;
 
@@ -83,9 +82,16 @@ impl Transcript {
     pub fn take(self, input: &[u8], packet: &mut [u8]) -> Taken
         ensures { λ r. ⌜ Taking self (now (packet .entry)) (now (input .entry)) (r .transcript) (now (packet .exit)) (r .used) ⌝ }
     {
-        let ready = is_ready(self, packet.len());
+        let ready = state::is_ready(self, packet.len());
         if ready {
-            return taking::take(self, input, packet);
+            let hungry = state::is_hungry(self);
+            if hungry {
+                return taking::take(self, input, packet);
+            }
+            return Taken {
+                transcript: self,
+                used: 0,
+            };
         }
         Taken {
             transcript: self,
@@ -98,9 +104,27 @@ impl Transcript {
     pub fn give(self, packet: &[u8], space: &mut [u8]) -> Given
         ensures { λ r. ⌜ Giving self (now (packet .entry)) (now (space .entry)) (r .transcript) (now (space .exit)) (r .count) ⌝ }
     {
-        let ready = is_ready(self, packet.len());
+        let ready = state::is_ready(self, packet.len());
         if ready {
-            return giving::give(self, packet, space);
+            let marks = self.marks;
+            let from = self.from;
+            let to = self.to;
+            let reader = self.reader;
+            let receiver = self.receiver;
+            let counts = self.counts;
+            let put = printing::put_due(marks, &packet[from..to], space);
+            return Given {
+                transcript: Transcript {
+                    reader,
+                    receiver,
+                    counts,
+                    left: self.left,
+                    marks: marks - put.marks,
+                    from: from + put.text,
+                    to,
+                },
+                count: LossMark::SIZE * put.marks + put.text,
+            };
         }
         Given {
             transcript: self,
@@ -112,9 +136,13 @@ impl Transcript {
     pub fn stop(self, packet: &mut [u8]) -> Transcript
         ensures { λ r. ⌜ Stopping self (now (packet .entry)) r (now (packet .exit)) ⌝ }
     {
-        let ready = is_ready(self, packet.len());
+        let ready = state::is_ready(self, packet.len());
         if ready {
-            return taking::stop(self, packet);
+            let hungry = state::is_hungry(self);
+            if hungry {
+                return settling::break_off(self, packet);
+            }
+            return self;
         }
         self
     }
@@ -123,7 +151,7 @@ impl Transcript {
     pub fn is_due(self) -> bool
         ensures { λ r. ⌜ r ≡ not (noneDue self) ⌝ }
     {
-        let nothing = taking::is_nothing_due(self);
+        let nothing = state::is_nothing_due(self);
         !nothing
     }
 
@@ -133,51 +161,9 @@ impl Transcript {
     {
         let reader = self.reader;
         let part = reader.part;
-        if taking::is_going(part) {
+        if part.is_going() {
             return false;
         }
-        taking::is_nothing_due(self)
+        state::is_nothing_due(self)
     }
-}
-
-// Of so many bytes read.
-fn counts_fit(counts: Counts, read: u64) -> bool
-    requires { ⌜ read ≤ 1099511627776 ⌝ }
-    ensures { λ r. ⌜ r ≡ countsFit counts read ⌝ }
-{
-    if read < counts.packets {
-        return false;
-    }
-    if read < counts.late {
-        return false;
-    }
-    if read < counts.refused {
-        return false;
-    }
-    counts.lost <= Transcript::MOST_LOST * read
-}
-
-// Whether these calls left the transcript, and the lent buffer has the space.
-fn is_ready(s: Transcript, space: usize) -> bool
-    ensures { λ r. ⌜ r ≡ readyWith s space ⌝ }
-{
-    if space < Transcript::BUFFER {
-        return false;
-    }
-    if s.to < s.from {
-        return false;
-    }
-    if Transcript::BUFFER < s.to {
-        return false;
-    }
-    if Transcript::LIMIT < s.left {
-        return false;
-    }
-    let counts = s.counts;
-    let read = Transcript::LIMIT - s.left;
-    if counts_fit(counts, read as u64) {
-        let reader = s.reader;
-        return reader.is_sound();
-    }
-    false
 }

@@ -3,25 +3,25 @@ ghost use mathlib.Core.Path.{_≡_};
 ghost use mathlib.Core.Bool.{true};
 ghost use Prim.Native.Nat.{_≤_};
 ghost use lib.ListN.{length};
-ghost use Rattle.journal.specs.Transcript.{brokenLine};
+ghost use Rattle.journal_spec.specs.Contents.{longestPacket};
+ghost use Rattle.journal_spec.specs.Lines.{brokenLine};
 ghost use Rattle.journal.specs.Counts.{lineOf};
 ghost use Rattle.journal.specs.Standing.{settled, closed, waits};
 ghost use Rattle.journal.specs.Ready.{ready, standingOf};
 ghost use Rattle.journal.specs.Acting.{Spare, passed};
 use crate::Counts;
 use crate::Transcript;
-use crate::closing;
+use parts::Part;
 use receiver::Answer;
 use receiver::Receiver;
-use records::Part;
 use records::Reader;
 
 // The journal is broken: its line is due.
 pub fn break_off(s: Transcript, packet: &mut [u8]) -> Transcript
-    requires { ⌜ (ready s ≡ true) × (1488 ≤ length (now packet)) ⌝ }
+    requires { ⌜ (ready s ≡ true) × (longestPacket ≤ length (now packet)) ⌝ }
     ensures { λ r. ⌜ (ready r ≡ true) × (standingOf r (now (packet .exit)) ≡ closed (standingOf s (now (packet .entry))) Part.Broken brokenLine) ⌝ }
 {
-    let to = closing::put_broken(packet);
+    let to = printing::put_broken(packet);
     let reader = s.reader;
     let receiver = s.receiver;
     let counts = s.counts;
@@ -43,11 +43,17 @@ pub fn break_off(s: Transcript, packet: &mut [u8]) -> Transcript
 
 // The journal has ended: the line of counts is due.
 fn finish(s: Transcript, packet: &mut [u8]) -> Transcript
-    requires { ⌜ (ready s ≡ true) × (1488 ≤ length (now packet)) ⌝ }
+    requires { ⌜ (ready s ≡ true) × (longestPacket ≤ length (now packet)) ⌝ }
     ensures { λ r. ⌜ (ready r ≡ true) × (standingOf r (now (packet .exit)) ≡ closed (standingOf s (now (packet .entry))) Part.Ended (lineOf (s .counts))) ⌝ }
 {
     let counts = s.counts;
-    let to = closing::put_counts(counts, packet);
+    let to = printing::put_counts(
+        counts.packets,
+        counts.late,
+        counts.lost,
+        counts.refused,
+        packet,
+    );
     let reader = s.reader;
     let receiver = s.receiver;
     Transcript {
@@ -68,7 +74,7 @@ fn finish(s: Transcript, packet: &mut [u8]) -> Transcript
 
 // More is to come, unless the limit is reached.
 fn wait(s: Transcript, packet: &mut [u8]) -> Transcript
-    requires { ⌜ (ready s ≡ true) × (1488 ≤ length (now packet)) ⌝ }
+    requires { ⌜ (ready s ≡ true) × (longestPacket ≤ length (now packet)) ⌝ }
     ensures { λ r. ⌜ (ready r ≡ true) × (standingOf r (now (packet .exit)) ≡ waits (standingOf s (now (packet .entry)))) ⌝ }
 {
     let left = s.left;
@@ -105,17 +111,17 @@ fn pass(
     }
 }
 
-fn open(s: Transcript, t140: usize, red: usize, packet: &[u8]) -> Transcript
+fn open(s: Transcript, t140: u8, red: u8, packet: &[u8]) -> Transcript
     requires { ⌜ (ready s ≡ true) × (s .reader .part ≡ Part.Opened t140 red) ⌝ }
     ensures { λ r. ⌜ (ready r ≡ true) × (standingOf r (now (packet .entry)) ≡ settled (standingOf s (now (packet .entry)))) ⌝ }
 {
-    let opening = Receiver::open(t140 as u8, red as u8);
+    let opening = Receiver::open(t140, red);
     pass(s, true, opening.receiver, s.counts, 0, 0, 0)
 }
 
 // A packet is whole: the receiver's step answers, and the marks and the text of the answer are due.
 fn step(s: Transcript, packet: &[u8]) -> Transcript
-    requires { ⌜ (ready s ≡ true) × (s .reader .part ≡ Part.Packet) × (1488 ≤ length (now packet)) × (Spare s) ⌝ }
+    requires { ⌜ (ready s ≡ true) × (s .reader .part ≡ Part.Packet) × (longestPacket ≤ length (now packet)) × (Spare s) ⌝ }
     ensures { λ r. ⌜ (ready r ≡ true) × (standingOf r (now (packet .entry)) ≡ settled (standingOf s (now (packet .entry)))) ⌝ }
 {
     let reader = s.reader;
@@ -169,7 +175,7 @@ fn step(s: Transcript, packet: &[u8]) -> Transcript
 }
 
 pub fn settle(s: Transcript, packet: &mut [u8]) -> Transcript
-    requires { ⌜ (ready s ≡ true) × (1488 ≤ length (now packet)) × (s .reader .part ≡ Part.Packet → Spare s) ⌝ }
+    requires { ⌜ (ready s ≡ true) × (longestPacket ≤ length (now packet)) × (s .reader .part ≡ Part.Packet → Spare s) ⌝ }
     ensures { λ r. ⌜ (ready r ≡ true) × (standingOf r (now (packet .exit)) ≡ settled (standingOf s (now (packet .entry)))) ⌝ }
 {
     let reader = s.reader;

@@ -1,14 +1,2 @@
-pub mod Arrays
-pub mod Checks
-pub mod Limits
 pub mod Refusal
-pub mod Utf8
-pub mod WellFormed
-pub mod Owed
-pub mod Header
-pub mod Redundancy
-pub mod Headers
-pub mod Reading
 pub mod Places
-pub mod Blocks
-pub mod Encoding

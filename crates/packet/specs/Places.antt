@@ -1,20 +1,25 @@
 -- The reader's answer: 01's number, and the packet with its blocks given by their places.
 use Prim.Native.Nat.{ℕ, _+_, _-_}
 use mathlib.Core.List.{List, [], _∷_}
-use mathlib.Core.Bool.{false, cond, _||_}
+use mathlib.Core.Bool.{false, cond}
 use lib.Dec.{ltb, eqb}
 use lib.ListN.{length, getD}
-use lib.Seq.{slice}
-use Rattle.packet.specs.declared.Expected.{Expected}
+use Rattle.packet.specs.declared.Expected as code
+use Rattle.packet.specs.declared.Expected.the-variants as source
 use Rattle.packet.specs.declared.Older.{Older}
 use Rattle.packet.specs.declared.Packet.{Packet}
 use Rattle.packet.specs.declared.Reading.{Reading}
-use Rattle.packet.specs.Arrays.{filled}
-use Rattle.packet.specs.Limits.{level}
+use Rattle.base.specs.Arrays.{filled, part}
+use Rattle.packet_spec.specs.Limits.{level}
 use Rattle.packet.specs.Refusal.{outcomeNumber}
-use Rattle.packet.specs.Header.{payloadEnd}
-use Rattle.packet.specs.Redundancy.{Block}
-use Rattle.packet.specs.Reading.{Content, Read, holds, refused, reading}
+use Rattle.packet_spec.specs.Header.{Expected, Any, Only, payloadEnd}
+use Rattle.packet_spec.specs.Redundancy.{Block}
+use Rattle.packet_spec.specs.Reading.{Content, Read, holds, refused, reading, firstAt}
+
+-- the source that is expected, in the terms of the definition
+abbrev pub sourceOf : code.Expected → Expected
+sourceOf source.Any = Any
+sourceOf (source.Only s) = Only s
 
 -- an answer by its number: 0, or the refusal's
 pub record Numbered : Type 0 where
@@ -35,14 +40,7 @@ abbrev pub placesFrom : ℕ → List Block → List Older
 placesFrom at [] = []
 placesFrom at (b ∷ bs) = record { offset = b .offset; at = at; len = length (b .bytes) } ∷ placesFrom (at + length (b .bytes)) bs
 
-abbrev pub size : List Block → ℕ
-size [] = 0
-size (b ∷ bs) = length (b .bytes) + size bs
-
--- the primary goes up to the payload's end, and the older blocks up to the primary
-abbrev pub primaryAt : List ℕ → Content → ℕ
-primaryAt p c = payloadEnd p - length (c .primary)
-
+-- the primary goes up to the payload's end
 abbrev pub placed : ℕ → List ℕ → Content → Packet
 placed n p c = record {
   marker = c .marker;
@@ -50,8 +48,8 @@ placed n p c = record {
   timestamp = c .timestamp;
   source = c .source;
   count = length (c .older);
-  older = filled none n (placesFrom (primaryAt p c - size (c .older)) (c .older));
-  primary = primaryAt p c;
+  older = filled none n (placesFrom (firstAt p c) (c .older));
+  primary = payloadEnd p - length (c .primary);
   end = payloadEnd p;
 }
 
@@ -71,12 +69,5 @@ startOf packet k =
     cond (ltb k (packet .count)) (getD (packet .older) k none .at)
     (cond (eqb k (packet .count)) (packet .primary) (packet .end))
 
-abbrev pub part : ℕ → ℕ → List ℕ → List ℕ
-part from to p = cond (ltb to from || ltb (length p) to) [] (slice from to p)
-
--- the blocks from one up to another, joined
-abbrev pub runOf : List ℕ → Packet → ℕ → ℕ → List ℕ
-runOf p packet from to = part (startOf packet from) (startOf packet to) p
-
 abbrev pub blockOf : List ℕ → Packet → ℕ → List ℕ
-blockOf p packet k = cond (ltb level k) [] (runOf p packet k (k + 1))
+blockOf p packet k = cond (ltb level k) [] (part (startOf packet k) (startOf packet (k + 1)) p)

@@ -1,18 +1,10 @@
-// Reading a packet of an RTP text line: the header (RFC 3550), the blocks (RFC 2198), the text (RFC 4103, RFC 3629).
-mod blocks;
-mod header;
-mod reader;
-mod redundancy;
-mod utf8;
-
+// A packet of an RTP text line as the reader hands it over: its fields, the places of its blocks, or its refusal.
 ghost use mathlib.Core.Path.{_≡_};
 ghost use lib.ListN.{getD};
+ghost use Rattle.base.specs.Arrays as Arrays;
+ghost use Rattle.packet_spec.specs.Limits.{level};
 ghost use Rattle.packet.specs.Refusal.{number};
-ghost use Rattle.packet.specs.Header.{typesBad};
-ghost use Rattle.packet.specs.Utf8.{textOf};
-ghost use Rattle.packet.specs.Places as Places;
-ghost use Rattle.packet.specs.Places.{numbered, readOf, none, startOf, runOf, blockOf};
-use utf8::Walked;
+ghost use Rattle.packet.specs.Places.{numbered, refusedAnswer, none, startOf, blockOf};
 
 // The refusals of 01, in the order of its table.
 pub enum Refusal {
@@ -134,7 +126,7 @@ fn older_start(older: [Older; Packet::LEVEL], k: usize) -> usize
 
 // The bytes from one place up to another; nothing where these do not lie within the bytes.
 pub fn part(bytes: &[u8], from: usize, to: usize) -> &[u8]
-    ensures { λ r. ⌜ now r ≡ Places.part from to (now (bytes .entry)) ⌝ }
+    ensures { λ r. ⌜ now r ≡ Arrays.part from to (now (bytes .entry)) ⌝ }
 {
     if to < from {
         return &bytes[..0];
@@ -145,16 +137,6 @@ pub fn part(bytes: &[u8], from: usize, to: usize) -> &[u8]
     &bytes[from..to]
 }
 
-// The blocks from the one at `from` up to the one at `to`, which is not among them, as a part of the packet's bytes;
-// nothing where their places do not lie within the bytes.
-pub fn block_run(bytes: &[u8], packet: Packet, from: usize, to: usize) -> &[u8]
-    ensures { λ r. ⌜ now r ≡ runOf (now (bytes .entry)) packet from to ⌝ }
-{
-    let start = packet.start_of(from);
-    let end = packet.start_of(to);
-    part(bytes, start, end)
-}
-
 // One block; nothing behind the primary.
 pub fn block(bytes: &[u8], packet: Packet, k: usize) -> &[u8]
     ensures { λ r. ⌜ now r ≡ blockOf (now (bytes .entry)) packet k ⌝ }
@@ -162,7 +144,9 @@ pub fn block(bytes: &[u8], packet: Packet, k: usize) -> &[u8]
     if Packet::LEVEL < k {
         return &bytes[..0];
     }
-    block_run(bytes, packet, k, k + 1)
+    let from = packet.start_of(k);
+    let to = packet.start_of(k + 1);
+    part(bytes, from, to)
 }
 
 // The outcome, and the packet; all zeros where it is refused.
@@ -171,63 +155,27 @@ pub struct Reading {
     pub packet: Packet,
 }
 
-// What a run of bytes is as text: so many characters, or the place of the first byte at which it can no longer be
-// well formed (its end, where it stops inside a letter).
-pub enum Text {
-    Characters(usize),
-    Stops(usize),
-}
-
-pub fn text_of(bytes: &[u8]) -> Text
-    ensures { λ r. ⌜ r ≡ textOf (now (bytes .entry)) ⌝ }
-{
-    let mut owed = utf8::fresh();
-    let mut characters: usize = 0;
-    let mut at: usize = 0;
-    while at < bytes.len() {
-        characters += utf8::begins(owed);
-        match utf8::step(owed, bytes[at]) {
-            Walked::Next(next) => owed = next,
-            Walked::Bad => return Text::Stops(at),
+impl Reading {
+    pub fn refused(refusal: Refusal) -> Reading
+        ensures { λ r. ⌜ numbered r ≡ refusedAnswer level (number refusal) ⌝ }
+    {
+        let none = Older {
+            offset: 0,
+            at: 0,
+            len: 0,
+        };
+        Reading {
+            outcome: Outcome::Refused(refusal),
+            packet: Packet {
+                marker: false,
+                sequence: 0,
+                timestamp: 0,
+                source: 0,
+                count: 0,
+                older: [none; Packet::LEVEL],
+                primary: 0,
+                end: 0,
+            },
         }
-        at += 1;
     }
-    let tails = owed.tails;
-    if tails != 0 {
-        return Text::Stops(at);
-    }
-    Text::Characters(characters)
-}
-
-// Whether payload types are refused: outside 96 to 127, or equal.
-pub fn types_bad(t140: u8, red: u8) -> bool
-    ensures { λ r. ⌜ r ≡ typesBad t140 red ⌝ }
-{
-    header::types_bad(t140, red)
-}
-
-// Reads a packet of the source that is expected.
-pub fn read_from(expected: Expected, t140: u8, red: u8, packet: &[u8]) -> Reading
-    ensures { λ r. ⌜ numbered r ≡ readOf expected t140 red (now (packet .entry)) ⌝ }
-{
-    if header::types_bad(t140, red) {
-        return reader::refused(Refusal::PayloadTypes);
-    }
-    if packet.len() < Packet::SHORTEST {
-        return reader::refused(Refusal::Short);
-    }
-    if Packet::LONGEST < packet.len() {
-        return reader::refused(Refusal::Long);
-    }
-    if packet[0] / 64 != 2 {
-        return reader::refused(Refusal::Version);
-    }
-    reader::read_rest(expected, t140, red, packet)
-}
-
-// Reads a packet of any source.
-pub fn read(t140: u8, red: u8, packet: &[u8]) -> Reading
-    ensures { λ r. ⌜ numbered r ≡ readOf Expected.Any t140 red (now (packet .entry)) ⌝ }
-{
-    read_from(Expected::Any, t140, red, packet)
 }

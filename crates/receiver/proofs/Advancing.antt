@@ -27,7 +27,8 @@ use denote.Triple.Spec.{tripleOf}
 use Rattle.receiver.specs.declared.Receiver.{Receiver}
 use Rattle.receiver.specs.declared.Advanced.{Advanced}
 use Rattle.receiver.specs.declared.Answer.{Answer}
-use Rattle.receiver.specs.Step.{advanced, stepOf}
+use Rattle.receiver_spec.specs.Step.{stepOf}
+use Rattle.receiver.specs.View.{receiverOf, advanced}
 use Rattle.receiver.proofs.Receiver as T
 use Rattle.receiver.proofs.Receiver.Laws as T′
 use Rattle.receiver.proofs.Advanced as S
@@ -59,8 +60,8 @@ module _ {M : Type 1} (𝓤 : URA M) (H : Heap 𝓤) (A : Atoms 𝓤) (at-mem : 
   abbrev pub Advance : Contract 𝓤
   Advance = tripleOf 𝓤 H A advance.signature (advance.spec 𝓤 H A at-mem run)
 
-  pub advance-of : (κ : Lft) (h : Receiver) (s : RefT (List ℕ)) (r : Advanced) → ent 𝓤 (ensured 𝓤 H A advance.ended (advance.clauses 𝓤 H A at-mem run) (κ, tt) (h, (s, tt)) tt r) (fact 𝓤 (advanced r ≡ stepOf h (now s)))
-  advance-of κ h s r = exE 𝓤 _ (λ ws. snd∗ 𝓤 (sem 𝓤 H A (lasts advance.ended (κ, tt) (h, (s, tt)) ws)) (fact 𝓤 (advanced r ≡ stepOf h (now s))))
+  pub advance-of : (κ : Lft) (h : Receiver) (s : RefT (List ℕ)) (r : Advanced) → ent 𝓤 (ensured 𝓤 H A advance.ended (advance.clauses 𝓤 H A at-mem run) (κ, tt) (h, (s, tt)) tt r) (fact 𝓤 (advanced r ≡ stepOf (receiverOf h) (now s)))
+  advance-of κ h s r = exE 𝓤 _ (λ ws. snd∗ 𝓤 (sem 𝓤 H A (lasts advance.ended (κ, tt) (h, (s, tt)) ws)) (fact 𝓤 (advanced r ≡ stepOf (receiverOf h) (now s))))
 
 module _ {M : Type 1} (𝓤 : URA M) (H : Heap 𝓤) (A : Atoms 𝓤) (W : Given 𝓤 H A) (at-mem : Memory → SProp 𝓤) (run : Routine → Fun 𝓤) (κ : Lft) (q : Share) (h : Receiver) (s : RefT (List ℕ)) where
   abbrev pub to-advance : Advance 𝓤 H A at-mem run .Ghost

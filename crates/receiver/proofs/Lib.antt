@@ -1,9 +1,4 @@
-pub mod Blocks
+pub mod Same
 pub mod Sign
 pub mod Steps
-pub mod Core
-pub mod TextGiven
-pub mod Lies
-pub mod MarkTests
-pub mod MarkStores
 pub mod Advancing

@@ -11,7 +11,7 @@ use mir.Val.{toZ, SFits}
 use mir.Facts.{toZ-pos}
 use borrow.Author.Tests.{lt-ltb, le-ltb, ltb-true}
 use Rattle.delivery.specs.Numbers.{circle, half, forward, late, courseOf}
-use Rattle.receiver.specs.Distance.{signed}
+use Rattle.receiver_spec.specs.Distance.{signed}
 
 below : (m : ℕ) → negsuc 0 -ℤ pos m ≡ negsuc m
 below zero = refl

@@ -1,40 +1,70 @@
 -- The step by the reader's answer.
-use Prim.Native.Nat.{ℕ, _≤_}
+use Prim.Native.Nat.{ℕ, suc, _+_, _-_, _≤_}
 use mathlib.Core.Path.{_≡_, _∙_, refl, ap, sym}
 use mathlib.Core.List.{List}
 use mathlib.Core.Bool.{Bool, true, false, cond}
 use native.Mathlib.Omega.{arith}
-use lib.IntN.{pos}
+use lib.IntN.{ℤ, pos}
+use lib.ListN.{length, take, drop, length-append}
 use Rattle.packet.specs.declared.Outcome.the-variants.{Accepted, Refused}
 use Rattle.packet.specs.declared.Packet.{Packet}
 use Rattle.packet.specs.declared.Reading.{Reading}
 use Rattle.packet.specs.declared.Refusal.{Refusal}
-use Rattle.receiver.specs.declared.Receiver.{Receiver}
-use Rattle.packet.specs.Limits.{level}
+use Rattle.packet_spec.specs.Limits.{level}
+use Rattle.packet_spec.specs.Header.{payloadEnd}
+use Rattle.packet_spec.specs.Redundancy.{joined}
+use Rattle.packet_spec.specs.Reading.{Content, holds, reading, blocks, firstAt}
 use Rattle.packet.specs.Refusal.{number}
-use Rattle.packet.specs.Reading.{Content, holds, reading}
-use Rattle.packet.specs.Places.{numbered, placed, readOf}
+use Rattle.packet.specs.Places.{numbered, placed, startOf, readOf}
 use Rattle.delivery.specs.Numbers.{Course, forward, late, courseOf, distance}
-use Rattle.receiver.specs.Step.{Step, refuses, sourceExpected, stepRead, firstStep, stepBy, stepOf}
+use Rattle.delivery.specs.Record.{lastOf, loss, wanted}
+use Rattle.receiver_spec.specs.Opening.{Receiver}
+use Rattle.receiver_spec.specs.Distance.{signed}
+use Rattle.receiver_spec.specs.Step.{Step, refuses, gives, movedTo, sourceExpected, givenFrom, stepRead, firstStep, stepBy, stepOf}
 use Rattle.receiver.specs.Accepted.{followed, laterBy, laterAccepted, acceptedStep}
-use Rattle.packet.proofs.Laws.{few}
-use Rattle.packet.proofs.Inverted.{reading-positive, was-refused, was-accepted}
+use Rattle.packet_spec.proofs.Numbers.{reading-positive}
+use Rattle.packet_spec.proofs.Runs.{reach, joined-split}
+use Rattle.packet_spec.proofs.Lies.{Lies, lies, few, blocks-length}
+use Rattle.packet.proofs.Laws.{start-at}
+use Rattle.reader.proofs.Inverted.{was-refused, was-accepted}
 
 module _ (r : Receiver) (k : Packet) where
-  pub later-step : r .«has_source» ≡ true → laterAccepted r k (distance (k .sequence) (r .expected)) ≡ acceptedStep r k
+  pub later-step : r .hasSource ≡ true → laterAccepted r k (distance (k .sequence) (r .expected)) ≡ acceptedStep r k
   later-step e = sym (ap (λ (h : Bool). cond h (laterAccepted r k (distance (k .sequence) (r .expected))) (followed r k 0 (pos 0) (k .count))) e)
 
-  pub first-step : r .«has_source» ≡ false → followed r k 0 (pos 0) (k .count) ≡ acceptedStep r k
+  pub first-step : r .hasSource ≡ false → followed r k 0 (pos 0) (k .count) ≡ acceptedStep r k
   first-step e = sym (ap (λ (h : Bool). cond h (laterAccepted r k (distance (k .sequence) (r .expected))) (followed r k 0 (pos 0) (k .count))) e)
 
 -- over the places of a content
-same-step : (r : Receiver) (p : List ℕ) (c : Content) → acceptedStep r (placed level p c) ≡ stepRead r p (holds c)
-same-step r p c =
-    ap (λ (s : Step). cond (r .«has_source») s (firstStep r p c)) (later (courseOf (distance (c .sequence) (r .expected))))
-  where
-    later : (v : Course) → laterBy v r (placed level p c) (distance (c .sequence) (r .expected)) ≡ stepBy v r p c (distance (c .sequence) (r .expected))
-    later forward = refl
-    later late = refl
+module _ (r : Receiver) (p : List ℕ) (c : Content) (l : Lies p c) where
+  -- the last w older blocks start where their bytes and the primary's reach back to
+  starts : (w : ℕ) → w ≤ length (c .older) → startOf (placed level p c) (length (c .older) - w) ≡ payloadEnd p - length (joined (lastOf (suc w) (blocks c)))
+  starts w h =
+      let bs = blocks c in
+      let n = length (c .older) in
+      let b : length bs ≡ suc n = blocks-length (c .older) (c .primary) in
+      let k : length bs - suc w ≡ n - w = omega arith in
+      let s : length (joined bs) ≡ reach bs (n - w) + length (joined (drop (n - w) bs)) = ap length (joined-split (n - w) bs) ∙ length-append (joined (take (n - w) bs)) (joined (drop (n - w) bs)) in
+      let room : length (joined bs) ≤ payloadEnd p = l .room in
+      let f : firstAt p c + reach bs (n - w) ≡ payloadEnd p - length (joined (drop (n - w) bs)) = omega arith in
+      start-at level p c l (n - w) (omega arith) ∙ f ∙ ap (λ (i : ℕ). payloadEnd p - length (joined (drop i bs))) (sym k)
+
+  follows : (marks : ℕ) (z : ℤ) (w : ℕ) → w ≤ length (c .older) → followed r (placed level p c) marks z w ≡ record { receiver = movedTo r c; answer = gives (givenFrom p c marks z w) }
+  follows marks z w h = ap (λ (from : ℕ). record { receiver = movedTo r c; answer = gives (record { loss = marks; distance = z; older = length (c .older); given = suc w; from = from; to = payloadEnd p }) }) (starts w h)
+
+  same-step : acceptedStep r (placed level p c) ≡ stepRead r p (holds c)
+  same-step = by (r .hasSource) (courseOf d)
+    where
+      d : ℕ
+      d = distance (c .sequence) (r .expected)
+
+      n : ℕ
+      n = length (c .older)
+
+      by : (h : Bool) (v : Course) → cond h (laterBy v r (placed level p c) d) (followed r (placed level p c) 0 (pos 0) n) ≡ cond h (stepBy v r p c d) (firstStep r p c)
+      by true forward = follows (loss d n) (signed d) (wanted d n) (omega arith)
+      by true late = refl
+      by false v = follows 0 (pos 0) n (omega arith)
 
 module _ (r : Receiver) (p : List ℕ) (x : Reading) (e : numbered x ≡ readOf (sourceExpected r) (r .t140) (r .red) p) where
   pub refused-step : (k : Refusal) → x .outcome ≡ Refused k → record { receiver = r; answer = refuses (number k) } ≡ stepOf r p
@@ -56,4 +86,4 @@ module _ (r : Receiver) (p : List ℕ) (x : Reading) (e : numbered x ≡ readOf 
   unfolding stepOf
   accepted-step o =
       let h = held o in
-      ap (acceptedStep r) (h .2) ∙ same-step r p (h .0) ∙ sym (ap (stepRead r p) (h .1))
+      ap (acceptedStep r) (h .2) ∙ same-step r p (h .0) (lies level (sourceExpected r) (r .t140) (r .red) p (h .0) (h .1)) ∙ sym (ap (stepRead r p) (h .1))

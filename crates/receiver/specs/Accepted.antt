@@ -3,17 +3,17 @@ use Prim.Native.Nat.{ℕ, suc, _-_}
 use mathlib.Core.Bool.{true, cond}
 use lib.IntN.{ℤ, pos}
 use Rattle.packet.specs.declared.Packet.{Packet}
-use Rattle.receiver.specs.declared.Receiver.{Receiver}
 use Rattle.packet.specs.Places.{startOf}
 use Rattle.delivery.specs.Numbers.{next, distance, Course, forward, late, courseOf}
 use Rattle.delivery.specs.Record.{loss, wanted}
-use Rattle.receiver.specs.Distance.{signed}
-use Rattle.receiver.specs.Step.{Step, isLate, gives}
+use Rattle.receiver_spec.specs.Distance.{signed}
+use Rattle.receiver_spec.specs.Opening.{Receiver}
+use Rattle.receiver_spec.specs.Step.{Step, isLate, gives}
 
 -- the last w older blocks and the primary are given
 abbrev pub followed : Receiver → Packet → ℕ → ℤ → ℕ → Step
 followed r k marks z w = record {
-  receiver = record { t140 = r .t140; red = r .red; «has_source» = true; source = k .source; expected = next (k .sequence) };
+  receiver = record { t140 = r .t140; red = r .red; hasSource = true; source = k .source; expected = next (k .sequence) };
   answer = gives (record {
     loss = marks;
     distance = z;
@@ -32,4 +32,4 @@ abbrev pub laterAccepted : Receiver → Packet → ℕ → Step
 laterAccepted r k d = laterBy (courseOf d) r k d
 
 abbrev pub acceptedStep : Receiver → Packet → Step
-acceptedStep r k = cond (r .«has_source») (laterAccepted r k (distance (k .sequence) (r .expected))) (followed r k 0 (pos 0) (k .count))
+acceptedStep r k = cond (r .hasSource) (laterAccepted r k (distance (k .sequence) (r .expected))) (followed r k 0 (pos 0) (k .count))

@@ -1,7 +1,2 @@
-pub mod Distance
-pub mod Opening
-pub mod Step
+pub mod View
 pub mod Accepted
-pub mod Record
-pub mod Marks
-pub mod Handed

@@ -1,12 +1,12 @@
 // The step of a packet that was read.
 ghost use mathlib.Core.Path.{_≡_};
 ghost use Prim.Native.Nat.{_≤_};
-ghost use Rattle.packet.specs.Limits.{level};
+ghost use Rattle.packet_spec.specs.Limits.{level};
 ghost use Rattle.delivery.specs.Record as Entries;
 ghost use Rattle.delivery.specs.Numbers as Numbers;
-ghost use Rattle.receiver.specs.Distance as Distance;
+ghost use Rattle.receiver_spec.specs.Distance as Distance;
 ghost use Rattle.receiver.specs.Accepted.{followed, laterAccepted, acceptedStep};
-ghost use Rattle.receiver.specs.Step.{advanced};
+ghost use Rattle.receiver.specs.View.{receiverOf, advanced};
 use crate::Advanced;
 use crate::Answer;
 use crate::Receiver;
@@ -59,7 +59,7 @@ fn wanted_of(d: u16, older: usize) -> usize
 // A forward packet: its last `wanted` older blocks and its primary are given, and the next number is expected.
 fn follow(receiver: Receiver, packet: Packet, loss: u16, distance: i16, wanted: usize) -> Advanced
     requires { ⌜ (wanted ≤ packet .count) × (packet .count ≤ level) ⌝ }
-    ensures { λ r. ⌜ advanced r ≡ followed receiver packet loss distance wanted ⌝ }
+    ensures { λ r. ⌜ advanced r ≡ followed (receiverOf receiver) packet loss distance wanted ⌝ }
 {
     let older = packet.count;
     let first = older - wanted;
@@ -88,7 +88,7 @@ fn follow(receiver: Receiver, packet: Packet, loss: u16, distance: i16, wanted: 
 // A packet behind the first.
 fn accept_later(receiver: Receiver, packet: Packet) -> Advanced
     requires { ⌜ packet .count ≤ level ⌝ }
-    ensures { λ r. ⌜ advanced r ≡ laterAccepted receiver packet (Numbers.distance (packet .sequence) (receiver .expected)) ⌝ }
+    ensures { λ r. ⌜ advanced r ≡ laterAccepted (receiverOf receiver) packet (Numbers.distance (packet .sequence) (receiver .expected)) ⌝ }
 {
     let d = ahead(packet.sequence, receiver.expected);
     let distance = signed(d);
@@ -107,7 +107,7 @@ fn accept_later(receiver: Receiver, packet: Packet) -> Advanced
 // The first packet gives all its blocks.
 pub fn accept(receiver: Receiver, packet: Packet) -> Advanced
     requires { ⌜ packet .count ≤ level ⌝ }
-    ensures { λ r. ⌜ advanced r ≡ acceptedStep receiver packet ⌝ }
+    ensures { λ r. ⌜ advanced r ≡ acceptedStep (receiverOf receiver) packet ⌝ }
 {
     let has_source = receiver.has_source;
     if has_source {

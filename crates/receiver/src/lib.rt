@@ -1,14 +1,13 @@
 // The receiver of a text line: its state, its opening and its step.
 mod accepting;
-mod marks;
 
 ghost use mathlib.Core.Path.{_≡_};
 ghost use mathlib.Core.Bool.{cond};
-ghost use Rattle.receiver.specs.Opening.{freshReceiver, opening, openingOf};
-ghost use Rattle.receiver.specs.Step.{answered, advanced, stepOf, textGiven};
-ghost use Rattle.receiver.specs.Handed.{handed, handedOf};
-pub use marks::LossMark;
-pub use marks::write_marks;
+ghost use Rattle.packet_spec.specs.Header.{Any, Only};
+ghost use Rattle.packet.specs.Places.{sourceOf};
+ghost use Rattle.receiver_spec.specs.Opening.{freshReceiver, openingOf};
+ghost use Rattle.receiver_spec.specs.Step.{stepOf, textGiven};
+ghost use Rattle.receiver.specs.View.{receiverOf, opening, answered, advanced, handed, handedOf};
 use packet::Expected;
 use packet::Outcome;
 use packet::Refusal;
@@ -59,7 +58,7 @@ pub struct Stepped<'a> {
 }
 
 fn fresh(t140: u8, red: u8) -> Receiver
-    ensures { λ r. ⌜ r ≡ freshReceiver t140 red ⌝ }
+    ensures { λ r. ⌜ receiverOf r ≡ freshReceiver t140 red ⌝ }
 {
     Receiver {
         t140,
@@ -72,7 +71,7 @@ fn fresh(t140: u8, red: u8) -> Receiver
 
 // The source that a packet must have: any, before the first accepted one.
 fn source_expected(known: bool, source: u32) -> Expected
-    ensures { λ r. ⌜ r ≡ cond known (Expected.Only source) Expected.Any ⌝ }
+    ensures { λ r. ⌜ sourceOf r ≡ cond known (Only source) Any ⌝ }
 {
     if known {
         return Expected::Only(source);
@@ -84,7 +83,7 @@ impl Receiver {
     pub fn open(t140: u8, red: u8) -> Opened
         ensures { λ r. ⌜ opening r ≡ openingOf t140 red ⌝ }
     {
-        if packet::types_bad(t140, red) {
+        if header::types_bad(t140, red) {
             return Opened {
                 outcome: Outcome::Refused(Refusal::PayloadTypes),
                 receiver: fresh(0, 0),
@@ -98,7 +97,7 @@ impl Receiver {
 
     // The step: the receiver for the next packet, the answer and the text.
     pub fn step<'a>(self, packet: &'a [u8]) -> Stepped<'a>
-        ensures { λ r. ⌜ handed r ≡ handedOf self (now (packet .entry)) ⌝ }
+        ensures { λ r. ⌜ handed r ≡ handedOf (receiverOf self) (now (packet .entry)) ⌝ }
     {
         let advanced = self.advance(packet);
         let answer = advanced.answer;
@@ -112,7 +111,7 @@ impl Receiver {
 
     // The step on a receiver that is lent and changed in place.
     pub fn step_in_place(&mut self, packet: &[u8]) -> Answer
-        ensures { λ r. ⌜ (answered r ≡ stepOf (now (self .entry)) (now (packet .entry)) .answer) × (now (self .exit) ≡ stepOf (now (self .entry)) (now (packet .entry)) .receiver) ⌝ }
+        ensures { λ r. ⌜ (answered r ≡ stepOf (receiverOf (now (self .entry))) (now (packet .entry)) .answer) × (receiverOf (now (self .exit)) ≡ stepOf (receiverOf (now (self .entry))) (now (packet .entry)) .receiver) ⌝ }
     {
         let advanced = (*self).advance(packet);
         *self = advanced.receiver;
@@ -121,10 +120,10 @@ impl Receiver {
 
     // The step without its text.
     pub fn advance(self, packet: &[u8]) -> Advanced
-        ensures { λ r. ⌜ advanced r ≡ stepOf self (now (packet .entry)) ⌝ }
+        ensures { λ r. ⌜ advanced r ≡ stepOf (receiverOf self) (now (packet .entry)) ⌝ }
     {
         let expected = source_expected(self.has_source, self.source);
-        let reading = packet::read_from(expected, self.t140, self.red, packet);
+        let reading = reader::read_from(expected, self.t140, self.red, packet);
         let outcome = reading.outcome;
         match outcome {
             Outcome::Refused(refusal) => Advanced {

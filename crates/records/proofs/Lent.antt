@@ -1,69 +1,20 @@
--- The lent buffer: bytes put behind the pieces, and what reading to the end leaves of it.
+-- The lent buffer: what reading to the end leaves of it.
 use Prim.Native.Nat.{ℕ, _+_, _-_, _≤_}
 use mathlib.Core.Path.{_≡_, _∙_, refl, ap, sym}
-use mathlib.Core.List.{List, [], _∷_, _++_, append-assoc, append-nil}
+use mathlib.Core.List.{List, [], _∷_, _++_}
 use mathlib.Core.Bool.{Bool, true, false, cond, true≢false}
 use native.Mathlib.Nat.{le-trans}
 use native.Mathlib.Omega.{arith}
-use borrow.Rule.Slice.PartMut.{putMid, midOf}
 use lib.Dec.{ltb, leb, eqb}
-use lib.ListN.{length, take, drop, drop-of-length-le, length-append, length-drop}
-use lib.Seq.{take-all, take-take, take-length, drop-drop, drop-append-seam, length-take-le, paste, take-paste, drop-paste, length-paste}
-use Rattle.packet.specs.Arrays.{over}
-use Rattle.packet.proofs.Tests.{by-test}
-use Rattle.records.specs.declared.Part.{Part}
-use Rattle.records.specs.declared.Part.the-variants.{Kind, Types, Red, Length, Low, Piece, Time, Opened, Packet, Ended, Broken}
-use Rattle.records.specs.Contents.{zeros}
-use Rattle.records.specs.Bytes.{Reading, readTo, going, byteAt, byte, pieced}
+use lib.ListN.{length, take, drop, length-append}
+use lib.Seq.{drop-drop, drop-append-seam, length-take-le}
+use Rattle.base.specs.Arrays.{over}
+use Rattle.base.proofs.Tests.{by-test}
+use Rattle.parts.specs.declared.Part.{Part}
+use Rattle.parts.specs.declared.Part.the-variants.{Kind, Types, Red, Length, Low, Piece, Time, Opened, Packet, Ended, Broken}
+use Rattle.journal_spec.specs.Contents.{zeros}
+use Rattle.parts.specs.Bytes.{Reading, readTo, going, byteAt, byte, pieced}
 use Rattle.records.specs.Turns.{lentAfter}
-
--- the part behind a was lent, and x copied to its front
-module _ (p x ys p' : List ℕ) (a n : ℕ) (room : a + n ≤ length p) (size : length x ≡ n)
-    (f : ys ≡ take (length x) x ++ drop (length x) (midOf a (length p - a) p)) (e : p' ≡ putMid a (length p - a) p ys) where
-  pub put : p' ≡ paste p a x n
-  put =
-      let d : length (drop a p) ≡ length p - a = length-drop a p in
-      let le : length (drop a p) ≤ length p - a = omega arith in
-      let g : ys ≡ take n x ++ drop (a + n) p =
-      f
-      ∙ ap (λ (k : ℕ). take k x ++ drop k (midOf a (length p - a) p)) size
-      ∙ ap (λ (l : List ℕ). take n x ++ drop n l) (take-all (length p - a) (drop a p) le)
-      ∙ ap (λ (l : List ℕ). take n x ++ l) (drop-drop n a p) in
-      e
-      ∙ ap (λ (l : List ℕ). take a p ++ (ys ++ l)) (drop-of-length-le (drop a p) le)
-      ∙ ap (λ (l : List ℕ). take a p ++ l) (append-nil ys ∙ g)
-      ∙ sym (append-assoc (take a p) (take n x) (drop (a + n) p))
-
-  pub same : length p' ≡ length p
-  same = ap length put ∙ length-paste p a x n room (omega arith)
-
-  pub gathered : take (a + n) p' ≡ take a p ++ x
-  gathered =
-      ap (take (a + n)) put
-      ∙ take-paste p a x n (omega arith) (omega arith)
-      ∙ ap (λ (l : List ℕ). take a p ++ l) (take-all n x (omega arith))
-
-  pub behind-stays : drop (a + n) p' ≡ drop (a + n) p
-  behind-stays = ap (drop (a + n)) put ∙ drop-paste p a x n (omega arith) (omega arith)
-
--- by way of z
-pub put-by : (p s z piece ys p' : List ℕ) (from a : ℕ) → from + 16 ≤ length s → a + 16 ≤ length p → length z ≡ 16
-    → piece ≡ take (length (take (from + 16 - from) (drop from s))) (take (from + 16 - from) (drop from s)) ++ drop (length (take (from + 16 - from) (drop from s))) z
-    → ys ≡ take (length piece) piece ++ drop (length piece) (midOf a (length p - a) p) → p' ≡ putMid a (length p - a) p ys
-    → p' ≡ paste p a (drop from s) 16
-put-by p s z piece ys p' from a h k l e f g =
-    let n : from + 16 - from ≡ 16 = omega arith in
-    let x = take (from + 16 - from) (drop from s) in
-    let m : length x ≡ 16 = length-take-le (from + 16 - from) (drop from s) (omega (arith, length-drop from s)) ∙ n in
-    let lz : length z ≤ length x = omega arith in
-    let i : piece ≡ x =
-    e
-    ∙ ap (λ (y : List ℕ). y ++ drop (length x) z) (take-length x)
-    ∙ ap (λ (y : List ℕ). x ++ y) (drop-of-length-le z lz)
-    ∙ append-nil x in
-    let j : take 16 piece ≡ take 16 (drop from s) =
-    ap (take 16) (i ∙ ap (λ (y : ℕ). take y (drop from s)) n) ∙ take-take 16 16 (drop from s) (omega arith) in
-    put p piece ys p' a 16 k (ap length i ∙ m) f g ∙ ap (λ (y : List ℕ). take a p ++ y ++ drop (a + 16) p) j
 
 -- from here on the pieces only grow until reading stops
 abbrev growing : Part → ℕ → List ℕ → Bool

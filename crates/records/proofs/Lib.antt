@@ -1,10 +1,7 @@
-pub mod Spans
-pub mod Agree
-pub mod Laws
-pub mod Zeros
 pub mod Sound
 pub mod Outcomes
 pub mod Lent
 pub mod Turns
+pub mod Pieces
 pub mod Gathering
 pub mod Runs

@@ -6,15 +6,17 @@ use mathlib.Core.Bool.{Bool, true, false}
 use native.Mathlib.Omega.{arith}
 use lib.ListN.{length, take, drop, drop-of-length-le, length-drop}
 use lib.Seq.{drop-drop}
-use Rattle.packet.specs.Arrays.{over}
+use Rattle.journal_spec.specs.Contents.{longestPacket}
+use Rattle.base.specs.Arrays.{over}
 use Rattle.records.specs.declared.Reader.{Reader}
-use Rattle.records.specs.Bytes.{Reading, readTo, unread, going}
+use Rattle.parts.specs.Bytes.{Reading, readTo, unread, going}
 use Rattle.records.specs.Reading.{readingOf, sound, ready, ReadAll, Read, broken}
 use Rattle.records.specs.Turns.{Went, Turned, lentAfter}
 use borrow.Author.Tests.{leb-true}
 use lib.Dec.{leb}
-use Rattle.records.proofs.Sound.{and-left, and-right, fits}
-use Rattle.records.proofs.Zeros.{behind}
+use Rattle.base.proofs.Tests.{and-left, and-right}
+use Rattle.records.proofs.Sound.{fits}
+use Rattle.parts.proofs.Zeros.{behind}
 use Rattle.records.proofs.Lent.{lends-all}
 
 pub gone : (r : Reader) (p s : List ℕ) → sound r ≡ true → Went r p s r p 0
@@ -48,7 +50,7 @@ module _ (r₀ : Reader) (p₀ s : List ℕ) (r : Reader) (p : List ℕ) (i : �
     }
 
   -- what is left is not read
-  all-read : 1488 ≤ length p → Over (readingOf r p) (drop i s) → ReadAll r₀ p₀ s r p i
+  all-read : longestPacket ≤ length p → Over (readingOf r p) (drop i s) → ReadAll r₀ p₀ s r p i
   all-read big o = record {
     still = w .still;
     within = w .within;
@@ -58,21 +60,21 @@ module _ (r₀ : Reader) (p₀ s : List ℕ) (r : Reader) (p : List ℕ) (i : �
         (ap (λ (x : Reading). over (x .pieces) p₀) (sym (w .reads ∙ o .0)) ∙ w .lends ∙ ap (λ (x : Reading). over (x .pieces) p) (o .0));
   }
 
-  pub at-end : 1488 ≤ length p → length s ≤ i → ReadAll r₀ p₀ s r p i
+  pub at-end : longestPacket ≤ length p → length s ≤ i → ReadAll r₀ p₀ s r p i
   at-end big h = all-read big (over-end (readingOf r p) (drop i s) (drop-of-length-le s h))
 
-  pub at-stop : 1488 ≤ length p → going (r .part) ≡ false → ReadAll r₀ p₀ s r p i
+  pub at-stop : longestPacket ≤ length p → going (r .part) ≡ false → ReadAll r₀ p₀ s r p i
   at-stop big h = all-read big (over-stop (readingOf r p) (drop i s) h)
 
 -- the last turn used nothing
 pub turn-last : (r₀ : Reader) (p₀ s : List ℕ) (r : Reader) (p : List ℕ) (i : ℕ) → Went r₀ p₀ s r p i
-    → (r' : Reader) (p' : List ℕ) (n : ℕ) → Turned r p (take (length s - i) (drop i s)) r' p' n → 1488 ≤ length p' → n ≡ 0 → ReadAll r₀ p₀ s r' p' i
+    → (r' : Reader) (p' : List ℕ) (n : ℕ) → Turned r p (take (length s - i) (drop i s)) r' p' n → longestPacket ≤ length p' → n ≡ 0 → ReadAll r₀ p₀ s r' p' i
 turn-last r₀ p₀ s r p i w r' p' n t big z =
     let e : i + n ≡ i = omega arith in
     at-stop r₀ p₀ s r' p' i (rw e at (went-on r₀ p₀ s r p i w r' p' n t)) big (t .stops z)
 
-pub ready-is : (r : Reader) (n : ℕ) (b : Bool) → b ≡ ready r n → b ≡ true → (sound r ≡ true) × (1488 ≤ n)
-ready-is r n b e h = let w = sym e ∙ h in (and-right (leb 1488 n) _ w, leb-true 1488 n (and-left (leb 1488 n) _ w))
+pub ready-is : (r : Reader) (n : ℕ) (b : Bool) → b ≡ ready r n → b ≡ true → (sound r ≡ true) × (longestPacket ≤ n)
+ready-is r n b e h = let w = sym e ∙ h in (and-right (leb longestPacket n) _ w, leb-true longestPacket n (and-left (leb longestPacket n) _ w))
 
 module _ (r : Reader) (p s : List ℕ) (b : Bool) (e : b ≡ ready r (length p)) where
   pub read-on : b ≡ true → (r' : Reader) (p' : List ℕ) (used : ℕ) → ReadAll r p s r' p' used → Read r p s r' p' used

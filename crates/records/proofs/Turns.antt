@@ -9,19 +9,22 @@ use borrow.Author.Tests.{ltb-true, ltb-false, leb-true, lt-ltb, le-leb, eqb-true
 use lib.Dec.{ltb, leb, eqb}
 use lib.ListN.{length, getD, take, drop}
 use lib.Seq.{length-take-le}
-use Rattle.packet.specs.Header.{typesBad}
-use Rattle.packet.specs.Arrays.{over}
-use Rattle.packet.proofs.Tests.{by-test}
-use Rattle.records.specs.declared.Part.{Part}
-use Rattle.records.specs.declared.Part.the-variants.{Kind, Types, Red, Length, Low, Piece, Time, Opened, Packet, Broken}
+use Rattle.packet_spec.specs.Header.{typesBad}
+use Rattle.base.specs.Arrays.{over}
+use Rattle.base.proofs.Tests.{by-test, both, and-left, and-right}
+use Rattle.base.proofs.Pasted.{gathered, same, behind-stays}
+use Rattle.parts.specs.declared.Part.{Part}
+use Rattle.parts.specs.declared.Part.the-variants.{Kind, Types, Red, Length, Low, Piece, Time, Opened, Packet, Broken}
 use Rattle.records.specs.declared.Reader.{Reader}
-use Rattle.records.specs.Contents.{zeros}
-use Rattle.records.specs.Bytes.{Reading, going, byteAt, inPiece, at, pieceEnd, kindOf, begun}
-use Rattle.records.specs.Reading.{readingOf, with, broken, begunBy, wholePieces, soundAt, sound}
+use Rattle.journal_spec.specs.Contents.{zeros, longestPacket}
+use Rattle.parts.specs.Bytes.{Reading, going, byteAt, inPiece, at, pieceEnd, kindOf, begun}
+use Rattle.records.specs.Reading.{readingOf, with, broken, begunBy, sound}
 use Rattle.records.specs.Turns.{Went, Turned}
-use Rattle.records.proofs.Laws.{Moves, stays, first, piece-part, piece-end, time-part, time-end}
-use Rattle.records.proofs.Sound.{both, and-left, and-right, whole, whole-is, small, at-part}
-use Rattle.records.proofs.Lent.{Growing, grows-end, gathered, same, behind-stays, lends-put}
+use Rattle.parts.proofs.Laws.{Moves, stays, first, piece-part, piece-end, time-part, time-end}
+use Rattle.parts.specs.Sound.{wholePieces, soundAt}
+use Rattle.parts.proofs.Sound.{whole, whole-is}
+use Rattle.records.proofs.Sound.{small, at-part}
+use Rattle.records.proofs.Lent.{Growing, grows-end, lends-put}
 
 -- nothing was put into the buffer
 pub went : {r r' : Reader} {p s : List ℕ} {used : ℕ} → sound r' ≡ true → used ≤ length s
@@ -54,10 +57,10 @@ some-used h w = record { goes = w; stops = λ z. absurd (never z h) }
     never a b = omega arith
 
 -- behind a whole piece
-pub sound-end : (r : Reader) (a : ℕ) (ps : List ℕ) → r .size ≤ 1488 → length ps ≡ a → a ≤ 1488 → a % 16 ≡ 0
+pub sound-end : (r : Reader) (a : ℕ) (ps : List ℕ) → r .size ≤ longestPacket → length ps ≡ a → a ≤ longestPacket → a % 16 ≡ 0
     → sound (with r (pieceEnd (r .size) ps) a) ≡ true
 sound-end r a ps h l f w =
-    both (le-leb (r .size) 1488 h)
+    both (le-leb (r .size) longestPacket h)
     (by-test P (ltb (length ps) (r .size)) (λ _. whole a f w)
     (λ i. by-test P (zeros (drop (r .size) ps)) (λ _. both (le-leb (r .size) a (omega (arith, ltb-false (length ps) (r .size) i))) (whole a f w)) (λ _. whole a f w)))
   where
@@ -65,18 +68,18 @@ sound-end r a ps h l f w =
     P q = soundAt q (r .size) a ≡ true
 
 -- a piece ends within the buffer
-pub piece-fits : (r : Reader) (n : ℕ) → r .part ≡ Piece n → sound r ≡ true → r .at + n ≤ 1488
-piece-fits r n q ok = whole-is (r .at + n) (and-right (leb 1 n) _ (at-part r (Piece n) ok q)) .0
+pub piece-fits : (r : Reader) (n : ℕ) → r .part ≡ Piece n → sound r ≡ true → r .at + n ≤ longestPacket
+piece-fits r n q ok = whole-is (r .at + n) (and-right (leb 1 n) _ (at-part r ok (Piece n) q)) .0
 
-module _ (r : Reader) (p s : List ℕ) (n m : ℕ) (q : r .part ≡ Piece n) (ok : sound r ≡ true) (some : 0 < length s) (big : 1488 ≤ length p)
+module _ (r : Reader) (p s : List ℕ) (n m : ℕ) (q : r .part ≡ Piece n) (ok : sound r ≡ true) (some : 0 < length s) (big : longestPacket ≤ length p)
     (mm : m ≡ min n (length s)) where
   way : (leb 1 n && wholePieces (r .at + n)) ≡ true
-  way = at-part r (Piece n) ok q
+  way = at-part r ok (Piece n) q
 
   live : 1 ≤ n
   live = leb-true 1 n (and-left (leb 1 n) _ way)
 
-  end-fits : (r .at + n ≤ 1488) × ((r .at + n) % 16 ≡ 0)
+  end-fits : (r .at + n ≤ longestPacket) × ((r .at + n) % 16 ≡ 0)
   end-fits = whole-is (r .at + n) (and-right (leb 1 n) _ way)
 
   pub piece-room : (r .at + m ≤ length p) × (0 < m) × (m ≤ length s)
@@ -107,7 +110,7 @@ module _ (r : Reader) (p s : List ℕ) (n m : ℕ) (q : r .part ≡ Piece n) (ok
         let b = end-fits in
         let w : r .at + m + (n - m) ≡ r .at + n = omega arith in
         some-used (piece-room .1) (went-put r p s _ p' m
-        (both (le-leb (r .size) 1488 (small r ok)) (both (le-leb 1 (n - m) (omega arith)) (rw w (whole (r .at + n) (b .0) (b .1)))))
+        (both (le-leb (r .size) longestPacket (small r ok)) (both (le-leb 1 (n - m) (omega arith)) (rw w (whole (r .at + n) (b .0) (b .1)))))
         (piece-room .2)
         (begins _ _ (rw all (piece-part (readingOf r p) n (take (r .at) p) s m (piece-room .2) h)))
         refl
@@ -129,7 +132,7 @@ module _ (r : Reader) (p s : List ℕ) (n m : ℕ) (q : r .part ≡ Piece n) (ok
 
 module _ (r : Reader) (p s : List ℕ) (n m : ℕ) (q : r .part ≡ Time n) (ok : sound r ≡ true) (some : 0 < length s) (mm : m ≡ min n (length s)) where
   time-way : (leb 1 n && wholePieces (r .at)) ≡ true
-  time-way = at-part r (Time n) ok q
+  time-way = at-part r ok (Time n) q
 
   time-live : 1 ≤ n
   time-live = leb-true 1 n (and-left (leb 1 n) _ time-way)
@@ -146,18 +149,18 @@ module _ (r : Reader) (p s : List ℕ) (n m : ℕ) (q : r .part ≡ Time n) (ok 
   pub turn-time : m < n → Turned r p s (with r (Time (n - m)) (r .at)) p m
   turn-time h =
       some-used (time-room .0)
-      (went (both (le-leb (r .size) 1488 (small r ok)) (both (le-leb 1 (n - m) (omega arith)) time-whole)) (time-room .1)
+      (went (both (le-leb (r .size) longestPacket (small r ok)) (both (le-leb 1 (n - m) (omega arith)) time-whole)) (time-room .1)
       (time-begins _ _ (time-part (readingOf r p) n s m (time-room .1) h)))
 
   pub turn-past : n ≤ m → Turned r p s (with r Kind (r .at)) p m
   turn-past h =
       let w : m ≡ n = omega arith in
       some-used (time-room .0)
-      (went (both (le-leb (r .size) 1488 (small r ok)) time-whole) (time-room .1)
+      (went (both (le-leb (r .size) longestPacket (small r ok)) time-whole) (time-room .1)
       (time-begins _ _ (time-end (readingOf r p) n s m (time-room .1) w time-live)))
 
 -- a byte outside pieces and times
-module _ (r : Reader) (p s : List ℕ) (ok : sound r ≡ true) (some : 0 < length s) (big : 1488 ≤ length p) where
+module _ (r : Reader) (p s : List ℕ) (ok : sound r ≡ true) (some : 0 < length s) (big : longestPacket ≤ length p) where
   by-byte : (q : Part) → r .part ≡ q → going q ≡ true → (r' : Reader) → sound r' ≡ true
       → byteAt q (readingOf r p) (getD s 0 0) ≡ readingOf r' p → Turned r p s r' p 1
   by-byte q e g r' w b =
@@ -166,11 +169,11 @@ module _ (r : Reader) (p s : List ℕ) (ok : sound r ≡ true) (some : 0 < lengt
       (rw (ap (λ (x : Part). byteAt x (readingOf r p) (getD s 0 0)) e ∙ b) at (first (readingOf r p) s some (ap going e ∙ g))))
 
   sized : (x : Part) (a : ℕ) → soundAt x (r .size) a ≡ true → sound (with r x a) ≡ true
-  sized x a h = both (le-leb (r .size) 1488 (small r ok)) h
+  sized x a h = both (le-leb (r .size) longestPacket (small r ok)) h
 
   pub turn-kind : r .part ≡ Kind → (q : Part) → q ≡ kindOf (r .opened) (ltb (r .at) (r .size)) (getD s 0 0) → Turned r p s (with r q (r .at)) p 1
   turn-kind e q i =
-      let w : wholePieces (r .at) ≡ true = at-part r Kind ok e in
+      let w : wholePieces (r .at) ≡ true = at-part r ok Kind e in
       let f = whole-is (r .at) w in
       let l : length (take (r .at) p) ≡ r .at = length-take-le (r .at) p (omega arith) in
       rw i (by-byte Kind e refl (with r (kindOf (r .opened) (ltb (r .at) (r .size)) (getD s 0 0)) (r .at))
@@ -186,37 +189,30 @@ module _ (r : Reader) (p s : List ℕ) (ok : sound r ≡ true) (some : 0 < lengt
       P : Part → Type 0
       P x = soundAt x (r .size) (r .at) ≡ true
 
-      more : r .at ≤ 1488 → r .at % 16 ≡ 0 → r .size ≤ 1488 → r .at < r .size → P (Piece 16)
+      more : r .at ≤ longestPacket → r .at % 16 ≡ 0 → r .size ≤ longestPacket → r .at < r .size → P (Piece 16)
       more a b c d = whole (r .at + 16) (omega arith) (omega arith)
 
-  module _ (v : ℕ) (ve : v ≡ getD s 0 0) (vb : v < 256) where
-    pub turn-length : r .part ≡ Length → Turned r p s (with r (Low v) (r .at)) p 1
-    turn-length e = by-byte Length e refl _ (sized (Low v) (r .at) (both (lt-ltb v 256 vb) (at-part r Length ok e))) (rw ve)
+  pub turn-length : r .part ≡ Length → Turned r p s (with r (Low (getD s 0 0)) (r .at)) p 1
+  turn-length e = by-byte Length e refl _ (sized (Low (getD s 0 0)) (r .at) (at-part r ok Length e)) refl
 
-    pub turn-types : r .part ≡ Types → Turned r p s (with r (Red v) (r .at)) p 1
-    turn-types e = by-byte Types e refl _ (sized (Red v) (r .at) (both (lt-ltb v 256 vb) (at-part r Types ok e))) (rw ve)
+  pub turn-types : r .part ≡ Types → Turned r p s (with r (Red (getD s 0 0)) (r .at)) p 1
+  turn-types e = by-byte Types e refl _ (sized (Red (getD s 0 0)) (r .at) (at-part r ok Types e)) refl
 
-    pub turn-red : (a : ℕ) → r .part ≡ Red a → (d : Part) → d ≡ cond (typesBad a v) Broken (Opened a v) → Turned r p s (with r d (r .at)) p 1
-    turn-red a e d i =
-        let w : (ltb a 256 && wholePieces (r .at)) ≡ true = at-part r (Red a) ok e in
-        let x : wholePieces (r .at) ≡ true = and-right (ltb a 256) _ w in
-        rw i (by-byte (Red a) e refl (with r (cond (typesBad a v) Broken (Opened a v)) (r .at))
-        (sized (cond (typesBad a v) Broken (Opened a v)) (r .at) (by-test P (typesBad a v) (λ _. x) (λ _. both (both (and-left (ltb a 256) _ w) (lt-ltb v 256 vb)) x)))
-        (rw ve))
-      where
-        P : Part → Type 0
-        P x = soundAt x (r .size) (r .at) ≡ true
-
-  pub red-byte : (a : ℕ) → r .part ≡ Red a → a < 256
-  red-byte a e = ltb-true a 256 (and-left (ltb a 256) _ (at-part r (Red a) ok e))
-
-  pub low-byte : (a : ℕ) → r .part ≡ Low a → a < 256
-  low-byte a e = ltb-true a 256 (and-left (ltb a 256) _ (at-part r (Low a) ok e))
+  pub turn-red : (a : ℕ) → r .part ≡ Red a → (d : Part) → d ≡ cond (typesBad a (getD s 0 0)) Broken (Opened a (getD s 0 0)) → Turned r p s (with r d (r .at)) p 1
+  turn-red a e d i =
+      let x : wholePieces (r .at) ≡ true = at-part r ok (Red a) e in
+      let v = getD s 0 0 in
+      rw i (by-byte (Red a) e refl (with r (cond (typesBad a v) Broken (Opened a v)) (r .at))
+      (sized (cond (typesBad a v) Broken (Opened a v)) (r .at) (by-test P (typesBad a v) (λ _. x) (λ _. x)))
+      refl)
+    where
+      P : Part → Type 0
+      P x = soundAt x (r .size) (r .at) ≡ true
 
   sound-begun : (n : ℕ) → wholePieces (r .at) ≡ true → sound (begunBy r n) ≡ true
   sound-begun n w =
-      by-test Q (ltb 1488 n) (λ _. sized Broken (r .at) w)
-      (λ h. both (le-leb n 1488 (ltb-false 1488 n h))
+      by-test Q (ltb longestPacket n) (λ _. sized Broken (r .at) w)
+      (λ h. both (le-leb n longestPacket (ltb-false longestPacket n h))
       (by-test P (eqb n 0) (λ z. both (le-leb n 0 (omega (arith, eqb-true n 0 z))) refl) (λ _. refl)))
     where
       Q : Reader → Type 0
@@ -226,7 +222,7 @@ module _ (r : Reader) (p s : List ℕ) (ok : sound r ≡ true) (some : 0 < lengt
       P x = soundAt x n 0 ≡ true
 
   begun-is : (n : ℕ) → begun (readingOf r p) n ≡ readingOf (begunBy r n) p
-  begun-is n = go (ltb 1488 n)
+  begun-is n = go (ltb longestPacket n)
     where
       go : (b : Bool) → cond b (at (readingOf r p) Broken) (record { opened = r .opened; part = cond (eqb n 0) Packet Kind; size = n; pieces = [] })
           ≡ readingOf (cond b (broken r) (record { opened = r .opened; part = cond (eqb n 0) Packet Kind; size = n; at = 0 })) p
@@ -235,7 +231,7 @@ module _ (r : Reader) (p s : List ℕ) (ok : sound r ≡ true) (some : 0 < lengt
 
   pub turn-low : (a n : ℕ) → r .part ≡ Low a → n ≡ a * 256 + getD s 0 0 → (d : Reader) → d ≡ begunBy r n → Turned r p s d p 1
   turn-low a n e k d i =
-      rw i (by-byte (Low a) e refl (begunBy r n) (sound-begun n (and-right (ltb a 256) _ (at-part r (Low a) ok e)))
+      rw i (by-byte (Low a) e refl (begunBy r n) (sound-begun n (at-part r ok (Low a) e))
       (ap (begun (readingOf r p)) (sym k) ∙ begun-is n))
 
   pub turn-none : going (r .part) ≡ false → Turned r p s r p 0

@@ -1,16 +1,16 @@
 -- A reader and the buffer lent to it, as a reading; and what a call answers.
-use Prim.Native.Nat.{ℕ, _+_, _%_, _≤_}
+use Prim.Native.Nat.{ℕ, _≤_}
 use mathlib.Core.Path.{_≡_}
 use mathlib.Core.List.{List}
 use mathlib.Core.Bool.{Bool, true, false, cond, _&&_}
 use lib.Dec.{ltb, leb, eqb}
 use lib.ListN.{length, take, drop}
-use Rattle.records.specs.declared.Part.{Part}
-use Rattle.records.specs.declared.Part.the-variants.{Kind, Types, Red, Length, Low, Piece, Time, Opened, Packet, Ended, Broken}
+use Rattle.journal_spec.specs.Contents.{longestPacket}
+use Rattle.parts.specs.declared.Part.{Part}
+use Rattle.parts.specs.declared.Part.the-variants.{Kind, Packet, Broken}
+use Rattle.parts.specs.Bytes.{Reading, readTo, unread}
+use Rattle.parts.specs.Sound.{soundPart}
 use Rattle.records.specs.declared.Reader.{Reader}
-use Rattle.records.specs.Records.{pieceLength}
-use Rattle.records.specs.Contents.{longestPacket}
-use Rattle.records.specs.Bytes.{Reading, readTo, unread}
 
 -- before the first byte
 abbrev pub start : Reader
@@ -32,27 +32,9 @@ begunBy r n =
     cond (ltb longestPacket n) (broken r)
     (record { opened = r .opened; part = cond (eqb n 0) Packet Kind; size = n; at = 0 })
 
--- the bytes of whole pieces, of the longest packet's at most
-abbrev pub wholePieces : ℕ → Bool
-wholePieces n = leb n longestPacket && eqb (n % pieceLength) 0
-
--- what was kept of a record is a byte, a piece or a time under way has a byte to come, and a packet is within its pieces
-abbrev pub soundAt : Part → ℕ → ℕ → Bool
-soundAt Kind size at = wholePieces at
-soundAt Types size at = wholePieces at
-soundAt (Red t140) size at = ltb t140 256 && wholePieces at
-soundAt Length size at = wholePieces at
-soundAt (Low high) size at = ltb high 256 && wholePieces at
-soundAt (Piece n) size at = leb 1 n && wholePieces (at + n)
-soundAt (Time n) size at = leb 1 n && wholePieces at
-soundAt (Opened t140 red) size at = ltb t140 256 && ltb red 256 && wholePieces at
-soundAt Packet size at = leb size at && wholePieces at
-soundAt Ended size at = wholePieces at
-soundAt Broken size at = wholePieces at
-
 -- a reader from which reading can go on: such are `start` and, again, those that calls leave
 abbrev pub sound : Reader → Bool
-sound r = leb (r .size) longestPacket && soundAt (r .part) (r .size) (r .at)
+sound r = soundPart (r .part) (r .size) (r .at)
 
 -- it is lent a buffer of so many bytes
 abbrev pub ready : Reader → ℕ → Bool

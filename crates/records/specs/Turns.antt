@@ -4,10 +4,12 @@ use mathlib.Core.Path.{_≡_}
 use mathlib.Core.List.{List}
 use mathlib.Core.Bool.{Bool, true, false}
 use lib.ListN.{length, take, drop}
-use Rattle.packet.specs.Arrays.{over}
+use Rattle.base.specs.Arrays.{over}
+use Rattle.parts.specs.declared.Part.{Part}
+use Rattle.parts.specs.Bytes.{Reading, readTo, unread, going, pieceEnd}
+use Rattle.parts.specs.Sound.{wholePieces}
 use Rattle.records.specs.declared.Reader.{Reader}
-use Rattle.records.specs.Bytes.{Reading, readTo, unread, going, pieceEnd}
-use Rattle.records.specs.Reading.{readingOf, wholePieces, sound}
+use Rattle.records.specs.Reading.{readingOf, sound}
 
 -- the lent p once s is read as far as reading goes
 abbrev pub lentAfter : Reading → List ℕ → List ℕ → List ℕ
@@ -26,7 +28,8 @@ abbrev pub inPacket : Bool → ℕ → List ℕ → Reading
 inPacket opened size ps = record { opened = opened; part = pieceEnd size ps; size = size; pieces = ps }
 
 -- whole pieces of s went behind the first `at` bytes of p, as far as a packet of `size` bytes needs them
-pub record Gathers (size at : ℕ) (p s : List ℕ) (at' : ℕ) (p' : List ℕ) (used : ℕ) : Type 0 where
+pub record Gathers (size at : ℕ) (p s : List ℕ) (part' : Part) (at' : ℕ) (p' : List ℕ) (used : ℕ) : Type 0 where
+  pub part : part' ≡ pieceEnd size (take at' p')
   pub whole : wholePieces at' ≡ true
   pub within : used ≤ length s
   pub reads : (o : Bool) → readTo (inPacket o size (take at p)) s ≡ readTo (inPacket o size (take at' p')) (drop used s)

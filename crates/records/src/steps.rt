@@ -1,31 +1,80 @@
 // Reading on: by whole records where they are there, else by bytes and parts of records.
 ghost use mathlib.Core.Path.{_≡_};
 ghost use mathlib.Core.Bool.{true};
-ghost use Prim.Native.Nat.{_≤_, _<_, _+_, min};
+ghost use Prim.Native.Nat.{_≤_, _<_, _+_, _-_, _%_};
 ghost use lib.ListN.{length, getD};
-ghost use Rattle.records.specs.Reading.{sound, ReadAll};
-ghost use Rattle.records.specs.Turns.{Turned};
+ghost use Rattle.journal_spec.specs.Records.{pieceLength};
+ghost use Rattle.journal_spec.specs.Contents.{longestPacket};
+ghost use Rattle.parts.specs.Sound.{wholePieces};
+ghost use Rattle.records.specs.Reading.{begunBy, sound, ReadAll};
+ghost use Rattle.records.specs.Turns.{Gathers, Turned};
 use crate::Done;
-use crate::Part;
 use crate::Reader;
-use crate::parts;
-use crate::pieces;
+use parts::Part;
 
-fn least(a: usize, b: usize) -> usize
-    ensures { λ r. ⌜ r ≡ min a b ⌝ }
+// Where the pieces of a packet of so many bytes end.
+fn pieces_end(size: usize) -> usize
+    requires { ⌜ size ≤ longestPacket ⌝ }
+    ensures { λ r. ⌜ (size ≤ r) × (r ≤ size + 15) × (r % pieceLength ≡ 0) ⌝ }
 {
-    if a < b { a } else { b }
+    (size + 15) / Part::PIECE * Part::PIECE
 }
 
-fn wide(x: u8) -> usize
-    ensures { λ r. ⌜ (r ≡ x) × (r < 256) ⌝ }
+// Where the packet is behind whole pieces, how many bytes of them are gathered, and how many of the input were used.
+struct Gathered {
+    part: Part,
+    at: usize,
+    used: usize,
+}
+
+// Whole pieces behind those gathered so far, as many as the packet needs and the input has.
+fn gather(size: usize, at: usize, input: &[u8], packet: &mut [u8]) -> Gathered
+    requires { ⌜ (wholePieces at ≡ true) × (at ≤ longestPacket) × (size ≤ longestPacket) × (longestPacket ≤ length (now packet)) × (at ≤ size) ⌝ }
+    ensures { λ q. ⌜ Gathers size at (now (packet .entry)) (now (input .entry)) (q .part) (q .at) (now (packet .exit)) (q .used) ⌝ }
 {
-    x as usize
+    let to = pieces_end(size);
+    let count = pieces::gather(input, &mut packet[at..to]);
+    let more = count * Part::PIECE;
+    let end = at + more;
+    let part = parts::piece_end(size, &packet[..end]);
+    Gathered {
+        part,
+        at: end,
+        used: count + more,
+    }
+}
+
+// A packet of n bytes begins.
+fn begun(r: Reader, n: usize) -> Reader
+    ensures { λ q. ⌜ q ≡ begunBy r n ⌝ }
+{
+    if Reader::BUFFER < n {
+        return Reader {
+            opened: r.opened,
+            part: Part::Broken,
+            size: r.size,
+            at: r.at,
+        };
+    }
+    if n == 0 {
+        return Reader {
+            opened: r.opened,
+            part: Part::Packet,
+            size: n,
+            at: 0,
+        };
+    }
+    Reader {
+        opened: r.opened,
+        part: Part::Kind,
+        size: n,
+        at: 0,
+    }
 }
 
 // A kind byte.
 fn kind_byte(r: Reader, input: &[u8], packet: &[u8]) -> Done
-    requires { ⌜ (r .part ≡ Part.Kind) × (sound r ≡ true) × (0 < length (now input)) × (1488 ≤ length (now packet)) ⌝ }
+    requires { ⌜ (r .part ≡ Part.Kind) × (sound r ≡ true) × (0 < length (now input)) × (longestPacket ≤ length (now packet)) ⌝ }
     ensures { λ q. ⌜ Turned r (now (packet .entry)) (now (input .entry)) (q .reader) (now (packet .entry)) (q .used) ⌝ }
 {
     let next = parts::kind(r.opened, r.at < r.size, input[0]);
@@ -42,22 +91,21 @@ fn kind_byte(r: Reader, input: &[u8], packet: &[u8]) -> Done
 
 // Within a packet: whole pieces.
 fn more_pieces(r: Reader, input: &[u8], packet: &mut [u8]) -> Done
-    requires { ⌜ (r .part ≡ Part.Kind) × (sound r ≡ true) × (0 < length (now input)) × (1488 ≤ length (now packet)) × (r .at < r .size) ⌝ }
+    requires { ⌜ (r .part ≡ Part.Kind) × (sound r ≡ true) × (0 < length (now input)) × (longestPacket ≤ length (now packet)) × (r .at < r .size) ⌝ }
     ensures { λ q. ⌜ Turned r (now (packet .entry)) (now (input .entry)) (q .reader) (now (packet .exit)) (q .used) ⌝ }
 {
     let size = r.size;
-    let g = pieces::gather(size, r.at, input, packet);
-    let end = g.at;
+    let g = gather(size, r.at, input, packet);
     if g.used == 0 {
         return kind_byte(r, input, packet);
     }
-    let part = parts::piece_end(size, &packet[..end]);
+    let part = g.part;
     Done {
         reader: Reader {
             opened: r.opened,
             part,
             size,
-            at: end,
+            at: g.at,
         },
         used: g.used,
     }
@@ -65,12 +113,12 @@ fn more_pieces(r: Reader, input: &[u8], packet: &mut [u8]) -> Done
 
 // A packet begins, with its whole pieces.
 fn begin_packet(r: Reader, input: &[u8], packet: &mut [u8]) -> Done
-    requires { ⌜ (r .part ≡ Part.Kind) × (sound r ≡ true) × (2 < length (now input)) × (1488 ≤ length (now packet))
+    requires { ⌜ (r .part ≡ Part.Kind) × (sound r ≡ true) × (2 < length (now input)) × (longestPacket ≤ length (now packet))
         × (r .size ≤ r .at) × (r .opened ≡ true) × (getD (now input) 0 0 ≡ 2) ⌝ }
     ensures { λ q. ⌜ Turned r (now (packet .entry)) (now (input .entry)) (q .reader) (now (packet .exit)) (q .used) ⌝ }
 {
-    let high = wide(input[1]);
-    let low = wide(input[2]);
+    let high = numbers::wide(input[1]);
+    let low = numbers::wide(input[2]);
     let size = high * 256 + low;
     if Reader::BUFFER < size {
         return Done {
@@ -83,15 +131,14 @@ fn begin_packet(r: Reader, input: &[u8], packet: &mut [u8]) -> Done
             used: 3,
         };
     }
-    let g = pieces::gather(size, 0, &input[3..], packet);
-    let end = g.at;
-    let part = parts::piece_end(size, &packet[..end]);
+    let g = gather(size, 0, &input[3..], packet);
+    let part = g.part;
     Done {
         reader: Reader {
             opened: r.opened,
             part,
             size,
-            at: end,
+            at: g.at,
         },
         used: 3 + g.used,
     }
@@ -99,7 +146,7 @@ fn begin_packet(r: Reader, input: &[u8], packet: &mut [u8]) -> Done
 
 // At a kind byte.
 fn at_kind(r: Reader, input: &[u8], packet: &mut [u8]) -> Done
-    requires { ⌜ (r .part ≡ Part.Kind) × (sound r ≡ true) × (0 < length (now input)) × (1488 ≤ length (now packet)) ⌝ }
+    requires { ⌜ (r .part ≡ Part.Kind) × (sound r ≡ true) × (0 < length (now input)) × (longestPacket ≤ length (now packet)) ⌝ }
     ensures { λ q. ⌜ Turned r (now (packet .entry)) (now (input .entry)) (q .reader) (now (packet .exit)) (q .used) ⌝ }
 {
     if r.at < r.size {
@@ -117,10 +164,10 @@ fn at_kind(r: Reader, input: &[u8], packet: &mut [u8]) -> Done
 
 // Some bytes of a piece.
 fn piece(r: Reader, n: usize, input: &[u8], packet: &mut [u8]) -> Done
-    requires { ⌜ (r .part ≡ Part.Piece n) × (sound r ≡ true) × (0 < length (now input)) × (1488 ≤ length (now packet)) × (r .at + n ≤ 1488) ⌝ }
+    requires { ⌜ (r .part ≡ Part.Piece n) × (sound r ≡ true) × (0 < length (now input)) × (longestPacket ≤ length (now packet)) × (r .at + n ≤ longestPacket) ⌝ }
     ensures { λ q. ⌜ Turned r (now (packet .entry)) (now (input .entry)) (q .reader) (now (packet .exit)) (q .used) ⌝ }
 {
-    let m = least(n, input.len());
+    let m = numbers::least(n, input.len());
     let at = r.at;
     let size = r.size;
     bytes::copy(&input[..m], &mut packet[at..]);
@@ -150,10 +197,10 @@ fn piece(r: Reader, n: usize, input: &[u8], packet: &mut [u8]) -> Done
 
 // Some bytes of a time.
 fn time(r: Reader, n: usize, input: &[u8], packet: &[u8]) -> Done
-    requires { ⌜ (r .part ≡ Part.Time n) × (sound r ≡ true) × (0 < length (now input)) × (1488 ≤ length (now packet)) ⌝ }
+    requires { ⌜ (r .part ≡ Part.Time n) × (sound r ≡ true) × (0 < length (now input)) × (longestPacket ≤ length (now packet)) ⌝ }
     ensures { λ q. ⌜ Turned r (now (packet .entry)) (now (input .entry)) (q .reader) (now (packet .entry)) (q .used) ⌝ }
 {
-    let m = least(n, input.len());
+    let m = numbers::least(n, input.len());
     if m < n {
         return Done {
             reader: Reader {
@@ -178,7 +225,7 @@ fn time(r: Reader, n: usize, input: &[u8], packet: &[u8]) -> Done
 
 // A record's byte, or what is there of a piece or a time.
 fn turn(r: Reader, input: &[u8], packet: &mut [u8]) -> Done
-    requires { ⌜ (sound r ≡ true) × (0 < length (now input)) × (1488 ≤ length (now packet)) ⌝ }
+    requires { ⌜ (sound r ≡ true) × (0 < length (now input)) × (longestPacket ≤ length (now packet)) ⌝ }
     ensures { λ q. ⌜ Turned r (now (packet .entry)) (now (input .entry)) (q .reader) (now (packet .exit)) (q .used) ⌝ }
 {
     let part = r.part;
@@ -187,7 +234,7 @@ fn turn(r: Reader, input: &[u8], packet: &mut [u8]) -> Done
         Part::Time(n) => time(r, n, input, packet),
         Part::Kind => at_kind(r, input, packet),
         Part::Length => {
-            let v = wide(input[0]);
+            let v = input[0];
             Done {
                 reader: Reader {
                     opened: r.opened,
@@ -199,15 +246,16 @@ fn turn(r: Reader, input: &[u8], packet: &mut [u8]) -> Done
             }
         }
         Part::Low(a) => {
-            let v = wide(input[0]);
-            let next = parts::begun(r, a * 256 + v);
+            let high = numbers::wide(a);
+            let low = numbers::wide(input[0]);
+            let next = begun(r, high * 256 + low);
             Done {
                 reader: next,
                 used: 1,
             }
         }
         Part::Types => {
-            let v = wide(input[0]);
+            let v = input[0];
             Done {
                 reader: Reader {
                     opened: r.opened,
@@ -219,8 +267,7 @@ fn turn(r: Reader, input: &[u8], packet: &mut [u8]) -> Done
             }
         }
         Part::Red(a) => {
-            let v = wide(input[0]);
-            let next = parts::opening(a, v);
+            let next = parts::opening(a, input[0]);
             Done {
                 reader: Reader {
                     opened: r.opened,
@@ -236,7 +283,7 @@ fn turn(r: Reader, input: &[u8], packet: &mut [u8]) -> Done
 }
 
 pub fn run(r: Reader, input: &[u8], packet: &mut [u8]) -> Done
-    requires { ⌜ (sound r ≡ true) × (1488 ≤ length (now packet)) ⌝ }
+    requires { ⌜ (sound r ≡ true) × (longestPacket ≤ length (now packet)) ⌝ }
     ensures { λ q. ⌜ ReadAll r (now (packet .entry)) (now (input .entry)) (q .reader) (now (packet .exit)) (q .used) ⌝ }
 {
     let mut now_at = r;

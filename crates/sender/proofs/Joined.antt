@@ -1,37 +1,110 @@
--- The waiting room that an offer leaves.
-use Prim.Native.Nat.{ℕ, zero, suc, _+_, _-_, _≤_}
-use mathlib.Core.Path.{_≡_, _∙_, refl, ap}
-use mathlib.Core.List.{List, [], _∷_, _++_}
+-- The sender behind an offer, by what the judgement of the offer says.
+use Prim.Native.Nat.{ℕ, suc, _+_, _≤_, min}
+use mathlib.Core.Path.{_≡_, _∙_, refl, ap, sym}
+use mathlib.Core.List.{List, [], _∷_}
+use mathlib.Core.Bool.{Bool, true, false, cond, not}
 use native.Mathlib.Omega.{arith}
-use lib.ListN.{length, take, replicate, length-append}
-use borrow.Rule.Slice.PartMut.{putMid, midOf}
-use Rattle.sender.specs.declared.Block.{Block}
-use Rattle.packet.specs.Arrays.{filled, over}
-use Rattle.sender.specs.Limits.{roomSize}
-use Rattle.sender.specs.State.{bytesOf}
-use Rattle.sender.specs.Offering.{waitingSince, waitingWith}
-use Rattle.packet.proofs.Lent.{wrote}
-use Rattle.sender.proofs.Written.{over-zeros}
+use lib.Dec.{eqb}
+use lib.ListN.{length, take}
+use borrow.Author.Tests.{ltb-false, eqb-true, eqb-false, not-false}
+use Rattle.sender.specs.declared.Sender.{Sender}
+use Rattle.packet.specs.declared.Outcome.{Outcome}
+use Rattle.packet.specs.declared.Outcome.the-variants.{Accepted, Refused}
+use Rattle.packet.specs.Refusal.{number}
+use Rattle.packet.proofs.Names.{number-positive}
+use Rattle.base.specs.Checks.{Check}
+use Rattle.base.proofs.InOrder.{NoneApplies, firstOf, number-first, refused-by, none-applies}
+use Rattle.text_spec.specs.Utf8.{isText}
+use Rattle.sender_spec.specs.Limits.{roomSize}
+use Rattle.sender_spec.specs.State as State
+use Rattle.sender_spec.specs.Settings.{settingsNumber}
+use Rattle.sender_spec.specs.Answers.{Numbered}
+use Rattle.sender_spec.specs.Offering.{offerChecks, senderWith, offerRefused, offerOf}
+use Rattle.sender_spec.proofs.Calls.{offer-joined}
+use Rattle.slots.specs.Slots.{slots, textsSize, slotOf}
+use Rattle.slots.proofs.Slots.{waiting-length, waiting-some}
+use Rattle.writer.specs.Draft.{blocksFrom}
+use Rattle.settings.specs.State.{settingsOf, progressOf}
+use Rattle.offer.specs.Offer.{senderWhere, textsWith, Judges}
+use Rattle.offer.proofs.Joined.{waiting-joined, other-stays, slot-other}
+use Rattle.sender.specs.State.{stateOf}
+use Rattle.sender.specs.Offering.{recordWith, recordBy, Offers}
 
-take-taken : (n : ℕ) (l : List ℕ) → take (length (take n l)) l ≡ take n l
-take-taken zero l = refl
-take-taken (suc n) [] = refl
-take-taken (suc n) (x ∷ l) = ap (λ (m : List ℕ). x ∷ m) (take-taken n l)
+-- text joins what waits, in its slot; the blocks kept stay
+module _ (s : Sender) (texts x : List ℕ) (size : length texts ≡ textsSize) (fits : min (s .len) roomSize + length x ≤ roomSize) where
+  abbrev after : List ℕ
+  after = textsWith (s .room) (s .len) x texts
 
--- a block's text is as many of its bytes as it is long
-pub text-front : (b : Block) (n : ℕ) → n ≡ length (bytesOf b) → take n (b .bytes) ≡ bytesOf b
-text-front b n e = ap (λ (k : ℕ). take k (b .bytes)) e ∙ take-taken (b .len) (b .bytes)
+  blocks : (back : ℕ) (lens ats : List ℕ) → 1 ≤ back → back + length lens ≤ slots → blocksFrom after (s .room) back lens ats ≡ blocksFrom texts (s .room) back lens ats
+  blocks back [] ats h k = refl
+  blocks back (n ∷ lens) [] h k = refl
+  blocks back (n ∷ lens) (t ∷ ats) h k =
+      let e = other-stays (s .room) (s .len) texts x size fits (slotOf (s .room) back) n (omega arith) (slot-other (s .room) (s .len) texts x size fits back h (omega arith)) in
+      let f = blocks (suc back) lens ats (omega arith) (omega arith) in
+      λ i. record { text = e i; at = t } ∷ f i
 
--- a room of zeros into which the waiting text was copied, and behind it the offered
-pub joined-is : (b : Block) (t : ℕ) (x : List ℕ) (n at : ℕ) (room part : List ℕ)
-    → n ≡ length (bytesOf b) → n + length x ≤ roomSize
-    → room ≡ over (take n (b .bytes)) (replicate roomSize 0) → part ≡ over x (midOf n (roomSize - n) room)
-    → at ≡ waitingSince b t
-    → record { bytes = putMid n (roomSize - n) room part; len = n + length x; at = at } ≡ waitingWith b t x
-joined-is b t x n at room part en fits er ep ea =
-    let w = bytesOf b in
-    let f : room ≡ over w (replicate roomSize 0) = er ∙ ap (λ (l : List ℕ). over l (replicate roomSize 0)) (text-front b n en) in
-    let bytes : putMid n (roomSize - n) room part ≡ filled 0 roomSize (w ++ x) =
-    wrote w x (replicate roomSize 0) room part n (roomSize - n) en f (omega arith) ep ∙ over-zeros roomSize (w ++ x) in
-    let len : n + length x ≡ length (w ++ x) = omega (arith, length-append w x) in
-    λ i. record { bytes = bytes i; len = len i; at = ea i }
+  joined-is : (t : ℕ) → 1 + length (s .lens) ≤ slots → stateOf (recordWith s t (length x)) after ≡ senderWith (stateOf s texts) t x
+  joined-is t few =
+      let w = waiting-joined (s .room) (s .len) texts x size fits in
+      let b = blocks 1 (s .lens) (s .ats) (omega arith) few in
+      let since = ap (λ (b : Bool). cond b (s .since) t) (sym (waiting-some texts size (s .room) (s .len))) in
+      λ i. record {
+        settings = settingsOf (s .settings);
+        clock = t;
+        waiting = w i;
+        since = since i;
+        kept = take (s .count) (b i);
+        progress = progressOf (s .progress);
+      }
+
+-- the settings pass, and then the other checks decide
+past : (n m : ℕ) → cond (not (eqb n 0)) n m ≡ 0 → (n ≡ 0) × (m ≡ 0)
+past n m = go (eqb n 0) refl
+  where
+    go : (b : Bool) → eqb n 0 ≡ b → cond (not b) n m ≡ 0 → (n ≡ 0) × (m ≡ 0)
+    go true q e = (eqb-true n 0 q, e)
+    go false q e = absurd (eqb-false n 0 q e)
+
+abbrev rest : List Check → List Check
+rest [] = []
+rest (c ∷ cs) = cs
+
+offer-passed : (s : State.Sender) (t : ℕ) (x : List ℕ) → firstOf (offerChecks s t x) ≡ 0
+    → (length (s .waiting) + length x ≤ roomSize) × (offerOf s t x ≡ record { number = 0; sender = senderWith s t x })
+offer-passed s t x e =
+    let p = past (settingsNumber (s .settings)) (firstOf (rest (offerChecks s t x))) e in
+    let h : NoneApplies (rest (offerChecks s t x)) = none-applies (rest (offerChecks s t x)) (omega arith, (omega arith, (omega arith, (omega arith, tt)))) (p .1) in
+    let room : length (s .waiting) + length x ≤ roomSize = ltb-false roomSize (length (s .waiting) + length x) (h .1 .1 .1 .0) in
+    (room, offer-joined s t x 0 (sym (p .0)) refl (ltb-false t (s .clock) (h .0)) (eqb-false (length x) 0 (h .1 .0)) (not-false (isText x) (h .1 .1 .0)) room)
+
+module _ (s : Sender) (texts : List ℕ) (t : ℕ) (x : List ℕ) (few : 1 + length (s .lens) ≤ slots) where
+  abbrev state : State.Sender
+  state = stateOf s texts
+
+  -- no check looks at more of the sender
+  first : (n : ℕ) → n ≡ offerOf (senderWhere (s .settings) (s .clock) (state .waiting)) t x .number → firstOf (offerChecks state t x) ≡ n
+  unfolding offerOf
+  first n e =
+      let asked = senderWhere (s .settings) (s .clock) (state .waiting) in
+      sym (e ∙ number-first (λ (r : Numbered). r .number) (offerRefused asked) (offerChecks asked t x) (record { number = 0; sender = senderWith asked t x }) (λ n. refl) refl)
+
+  refused-is : (n : ℕ) → 1 ≤ n → firstOf (offerChecks state t x) ≡ n → offerOf state t x ≡ offerRefused state n
+  unfolding offerOf
+  refused-is n k e = refused-by (offerRefused state) (offerChecks state t x) (record { number = 0; sender = senderWith state t x }) n k e
+
+  pub offers-by : (r : Outcome) (texts' : List ℕ) → Judges (s .settings) (s .clock) (s .room) (s .len) t x texts r texts' → Offers s texts t x r (recordBy r s t (length x)) texts'
+  offers-by Accepted texts' j =
+      let p = offer-passed state t x (first 0 (j .number)) in
+      let fits : min (s .len) roomSize + length x ≤ roomSize = omega (arith, p .0, waiting-length texts (j .whole) (s .room) (s .len)) in
+      record {
+        result = ap (λ (l : List ℕ). record { number = 0; sender = stateOf (recordWith s t (length x)) l }) (j .bytes)
+            ∙ ap (λ (a : State.Sender). record { number = 0; sender = a }) (joined-is s texts x (j .whole) fits t few) ∙ sym (p .1);
+        fields = refl;
+        bytes = j .bytes;
+      }
+  offers-by (Refused q) texts' j =
+      record {
+        result = ap (λ (l : List ℕ). record { number = number q; sender = stateOf s l }) (j .bytes) ∙ sym (refused-is (number q) (number-positive q) (first (number q) (j .number)));
+        fields = refl;
+        bytes = j .bytes;
+      }

@@ -1,47 +1,99 @@
--- The sender's clock call: "5, then whether anything is due, then 8" (01, "Refusal numbers" and "The sender").
-use Prim.Native.Nat.{ℕ}
-use mathlib.Core.List.{List, [], _∷_}
-use mathlib.Core.Bool.{cond}
+-- What the clock call answers.
+use Prim.Native.Nat.{ℕ, _+_, _-_, _%_, min}
+use mathlib.Core.Path.{_≡_}
+use mathlib.Core.List.{List, _∷_}
+use mathlib.Core.Bool.{Bool, true, false, cond, not, _||_, _&&_}
 use lib.Dec.{ltb}
-use lib.ListN.{length}
+use lib.ListN.{take}
 use Rattle.sender.specs.declared.Sender.{Sender}
-use Rattle.packet.specs.Arrays.{over}
-use Rattle.packet.specs.Checks.{Check, _gives_, checked}
-use Rattle.sender.specs.Settings.{settingsCheck}
-use Rattle.sender.specs.Answers.{refused, quiet, sent, ClockResult}
-use Rattle.sender.specs.Packets.{due, packetBytes, afterPacket}
+use Rattle.sender.specs.declared.Answer.{Answer}
+use Rattle.sender.specs.declared.Answer.the-variants.{Refused, Quiet, Sent}
+use Rattle.packet.specs.declared.Refusal.the-variants.{Space}
+use Rattle.packet.specs.Refusal.{number}
+use Rattle.packet_spec.specs.Limits.{level}
+use Rattle.delivery.specs.Numbers.{next}
+use Rattle.sender_spec.specs.Answers.{Answered, refused, quiet, sent}
+use Rattle.sender_spec.specs.Clocking.{clockOf}
+use Rattle.writer.specs.declared.Draft.{Draft}
+use Rattle.writer.specs.declared.Put.{Put}
+use Rattle.writer.specs.declared.Put.the-variants.{Nothing, Short, Written}
+use Rattle.slots.specs.Slots.{slots, roomOf}
+use Rattle.sender.specs.State.{stateOf}
 
--- "clock below the latest accepted clock"
-abbrev pub clockChecks : Sender → ℕ → List Check
-clockChecks s t = settingsCheck (s .settings) ∷ ltb t (s .clock) gives 5 ∷ []
+abbrev pub answered : Answer → Answered
+answered (Refused r) = refused (number r)
+answered Quiet = quiet
+answered (Sent n) = sent n
 
--- "lent packet space shorter than the packet due"
-abbrev pub spaceChecks : Sender → ℕ → List ℕ → List Check
-spaceChecks s t p = ltb (length p) (length (packetBytes s t)) gives 8 ∷ []
+-- what the packet at clock t is written from, where text waits and where none does
+abbrev pub draftOf : Sender → Bool → ℕ → Draft
+draftOf s waits t = record {
+  level = s .settings .level;
+  t140 = s .settings .t140;
+  red = s .settings .red;
+  marker = not (s .progress .sent) || (waits && ltb (s .settings .buffering) (s .since - s .progress .«last_text»));
+  sequence = s .progress .next;
+  timestamp = (s .settings .timestamp + t) % 4294967296;
+  source = s .settings .source;
+  clock = t;
+  lens = s .lens;
+  ats = s .ats;
+  count = s .count;
+  room = s .room;
+  len = s .len;
+}
 
--- "Any other refusal gives its number, the state as it came in, and lent bytes untouched"
-abbrev pub clockRefused : Sender → List ℕ → ℕ → ClockResult
-clockRefused s p n = record { answer = refused n; sender = s; lent = p }
+-- the answer, by what became of the draft
+abbrev pub answerOf : Put → Answer
+answerOf Nothing = Quiet
+answerOf Short = Refused Space
+answerOf (Written n) = Sent n
 
-abbrev pub senderAt : Sender → ℕ → Sender
-senderAt s t = record {
+-- the clock alone is changed
+abbrev pub recordAt : Sender → ℕ → Sender
+recordAt s t = record {
   settings = s .settings;
   clock = t;
-  waiting = s .waiting;
-  blocks = s .blocks;
+  room = s .room;
+  len = s .len;
+  since = s .since;
+  lens = s .lens;
+  ats = s .ats;
   count = s .count;
   progress = s .progress;
 }
 
--- "the call answers "quiet", touches no byte and only keeps t"
-abbrev pub clockQuiet : Sender → ℕ → List ℕ → ClockResult
-clockQuiet s t p = record { answer = quiet; sender = senderAt s t; lent = p }
+-- what waited is the newest block, in its place; the next slot of the circle, the oldest block's, is for what will wait
+abbrev pub recordAfter : Sender → ℕ → Sender
+recordAfter s t = record {
+  settings = s .settings;
+  clock = t;
+  room = (roomOf (s .room) + 1) % slots;
+  len = 0;
+  since = 0;
+  lens = take level (s .len ∷ s .lens);
+  ats = take level (t ∷ s .ats);
+  count = min (s .count) (level - 1) + 1;
+  progress = record { sent = true; last = t; «last_text» = cond (ltb 0 (s .len)) t (s .progress .«last_text»); next = next (s .progress .next) };
+}
 
--- the packet is written to the front of the lent space
-abbrev pub clockSent : Sender → ℕ → List ℕ → ClockResult
-clockSent s t p = record { answer = sent (length (packetBytes s t)); sender = afterPacket s t; lent = over (packetBytes s t) p }
+abbrev pub recordBehind : Answer → Sender → ℕ → Sender
+recordBehind (Refused r) s t = s
+recordBehind Quiet s t = recordAt s t
+recordBehind (Sent n) s t = recordAfter s t
 
-unfoldable pub clockOf : Sender → ℕ → List ℕ → ClockResult
-clockOf s t p =
-    checked (clockRefused s p) (clockChecks s t)
-    (cond (due s t) (checked (clockRefused s p) (spaceChecks s t p) (clockSent s t p)) (clockQuiet s t p))
+-- the sender that came and the one that is left are those of 01; and the fields are told besides
+pub record Clocks (s : Sender) (texts : List ℕ) (t : ℕ) (p : List ℕ) (r : Answer) (s' : Sender) (p' : List ℕ) : Type 0 where
+  pub result : record { answer = answered r; sender = stateOf s' texts; lent = p' } ≡ clockOf (stateOf s texts) t p
+  pub fields : s' ≡ recordBehind r s t
+
+-- which of its answers a call gave
+abbrev pub isQuiet : Answer → Bool
+isQuiet (Refused r) = false
+isQuiet Quiet = true
+isQuiet (Sent n) = false
+
+abbrev pub isSent : Answer → Bool
+isSent (Refused r) = false
+isSent Quiet = false
+isSent (Sent n) = true

@@ -1,15 +1,42 @@
--- Opening a sender (01, "Refusal numbers").
+-- What opening a sender answers.
 use Prim.Native.Nat.{ℕ}
-use mathlib.Core.List.{[], _∷_}
-use Rattle.sender.specs.declared.Settings.{Settings}
-use Rattle.packet.specs.Checks.{checked}
-use Rattle.sender.specs.Settings.{settingsCheck}
-use Rattle.sender.specs.State.{fresh, zeroSender}
-use Rattle.sender.specs.Answers.{Numbered}
+use mathlib.Core.Path.{_≡_}
+use mathlib.Core.List.{List}
+use mathlib.Core.Bool.{false}
+use lib.ListN.{replicate}
+use Rattle.settings.specs.declared.Settings.{Settings}
+use Rattle.sender.specs.declared.Sender.{Sender}
+use Rattle.sender.specs.declared.Opened.{Opened}
+use Rattle.packet.specs.declared.Outcome.{Outcome}
+use Rattle.packet.specs.declared.Outcome.the-variants.{Accepted, Refused}
+use Rattle.packet.specs.Refusal.{outcomeNumber}
+use Rattle.packet_spec.specs.Limits.{level}
+use Rattle.sender_spec.specs.Opening.{openingOf}
+use Rattle.settings.specs.State.{settingsOf}
+use Rattle.sender.specs.State.{stateOf}
 
--- "A refused opening gives its number and, where a value must stand beside it, a sender .. of all zeros"
-abbrev pub openingRefused : ℕ → Numbered
-openingRefused n = record { number = n; sender = zeroSender }
+-- the first sequence number is next, and all else is zero
+abbrev pub freshOf : Settings → Sender
+freshOf s = record {
+  settings = s;
+  clock = 0;
+  room = 0;
+  len = 0;
+  since = 0;
+  lens = replicate level 0;
+  ats = replicate level 0;
+  count = 0;
+  progress = record { sent = false; last = 0; «last_text» = 0; next = s .sequence };
+}
 
-unfoldable pub openingOf : Settings → Numbered
-openingOf s = checked openingRefused (settingsCheck s ∷ []) (record { number = 0; sender = fresh s })
+abbrev pub zeros : Sender
+zeros = freshOf (record { level = 0; buffering = 0; t140 = 0; red = 0; sequence = 0; timestamp = 0; source = 0 })
+
+abbrev pub openedBy : Outcome → Settings → Sender
+openedBy Accepted s = freshOf s
+openedBy (Refused r) s = zeros
+
+-- whatever texts are lent, the sender is that of 01; and the fields are told besides
+pub record Opens (s : Settings) (r : Opened) : Type 0 where
+  pub result : (texts : List ℕ) → record { number = outcomeNumber (r .outcome); sender = stateOf (r .sender) texts } ≡ openingOf (settingsOf s)
+  pub fields : r .sender ≡ openedBy (r .outcome) s

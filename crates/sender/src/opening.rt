@@ -1,73 +1,35 @@
 // Opening a sender.
 ghost use mathlib.Core.Path.{_≡_};
-ghost use Rattle.packet.specs.Refusal.{outcomeNumber};
-ghost use Rattle.delivery.specs.Numbers.{wrapped};
-ghost use Rattle.sender.specs.Settings.{bufferingBad, settingsNumber};
-ghost use Rattle.sender.specs.State as State;
-use crate::Progress;
+ghost use Rattle.sender.specs.Opening as Opening;
 use crate::Sender;
-use crate::Settings;
-use crate::blocks;
-use packet::Outcome;
-use packet::Refusal;
-
-fn buffering_bad(buffering: u64) -> bool
-    ensures { λ r. ⌜ r ≡ bufferingBad buffering ⌝ }
-{
-    if buffering == 0 {
-        return true;
-    }
-    Settings::LONGEST_BUFFERING < buffering
-}
-
-// The refusal that the settings call for.
-pub fn settings_outcome(settings: Settings) -> Outcome
-    ensures { λ r. ⌜ outcomeNumber r ≡ settingsNumber settings ⌝ }
-{
-    let level = settings.level;
-    if Sender::LEVEL < level {
-        return Outcome::Refused(Refusal::Level);
-    }
-    if buffering_bad(settings.buffering) {
-        return Outcome::Refused(Refusal::Buffering);
-    }
-    if packet::types_bad(settings.t140, settings.red) {
-        return Outcome::Refused(Refusal::PayloadTypes);
-    }
-    Outcome::Accepted
-}
-
-// A number of 16 bits is wrapped already.
-fn first(sequence: u16) -> u16
-    ensures { λ r. ⌜ r ≡ wrapped sequence ⌝ }
-{
-    sequence
-}
+use settings::Progress;
+use settings::Settings;
 
 // Nothing offered, and nothing sent.
 pub fn fresh(settings: Settings) -> Sender
-    ensures { λ r. ⌜ r ≡ State.fresh settings ⌝ }
+    ensures { λ r. ⌜ r ≡ Opening.freshOf settings ⌝ }
 {
-    let empty = blocks::empty();
-    let next = first(settings.sequence);
     let progress = Progress {
         sent: false,
         last: 0,
         last_text: 0,
-        next,
+        next: settings.sequence,
     };
     Sender {
         settings,
         clock: 0,
-        waiting: empty,
-        blocks: [empty; Sender::LEVEL],
+        room: 0,
+        len: 0,
+        since: 0,
+        lens: [0usize; Sender::LEVEL],
+        ats: [0u64; Sender::LEVEL],
         count: 0,
         progress,
     }
 }
 
 pub fn zeros() -> Sender
-    ensures { λ r. ⌜ r ≡ State.zeroSender ⌝ }
+    ensures { λ r. ⌜ r ≡ Opening.zeros ⌝ }
 {
     let settings = Settings {
         level: 0,

@@ -8,35 +8,49 @@ use compare::say;
 use independent::sender::{Clocked, Sender, Settings};
 use stewpigeon::lent;
 
-const SETTINGS: Settings = Settings {
-    level: 2,
-    buffering: 300,
-    t140: 98,
-    red: 100,
-    sequence: 65_000,
-    timestamp: 1000,
-    source: 0x11223344,
-};
-
 const SPACE: usize = 829;
 
-fn proved_open() -> lent::Sender {
+fn settings(level: usize) -> Settings {
+    Settings {
+        level,
+        buffering: 300,
+        t140: 98,
+        red: 100,
+        sequence: 65_000,
+        timestamp: 1000,
+        source: 0x11223344,
+    }
+}
+
+/// The proved sender: its record, and the texts that are lent with it.
+#[derive(Clone)]
+struct Proved {
+    record: lent::Sender,
+    texts: lent::Texts,
+}
+
+fn proved_open(level: usize) -> Proved {
+    let settings = settings(level);
     let settings = lent::Settings {
-        level: SETTINGS.level,
-        buffering: SETTINGS.buffering,
-        t140: SETTINGS.t140,
-        red: SETTINGS.red,
-        sequence: SETTINGS.sequence,
-        timestamp: SETTINGS.timestamp,
-        source: SETTINGS.source,
+        level: settings.level,
+        buffering: settings.buffering,
+        t140: settings.t140,
+        red: settings.red,
+        sequence: settings.sequence,
+        timestamp: settings.timestamp,
+        source: settings.source,
     };
-    let mut sender = lent::Sender::ZERO;
-    assert_eq!(lent::sender_open(&mut sender, settings), 0);
+    let mut sender = Proved {
+        record: lent::Sender::ZERO,
+        texts: [0; 800],
+    };
+    let number = lent::sender_open(&mut sender.record, &mut sender.texts, settings);
+    assert_eq!(number, 0);
     sender
 }
 
-fn independent_open() -> Sender {
-    Sender::open(SETTINGS).expect("good settings")
+fn independent_open(level: usize) -> Sender {
+    Sender::open(settings(level)).expect("good settings")
 }
 
 /// The figure of an answer: the length, and parts of the packet written.
@@ -51,39 +65,18 @@ fn figure(answer: i64, space: &[u8]) -> u64 {
     }
 }
 
-fn proved_clock(sender: &mut lent::Sender, clock: u64, space: &mut [u8]) -> u64 {
-    let answer = lent::sender_clock(sender, clock, space);
-    figure(answer, space)
-}
-
-#[inline(never)]
-fn clock_call(sender: &mut Sender, clock: u64, space: &mut [u8]) -> Clocked {
-    sender.clock(clock, space)
-}
-
-fn independent_clock(sender: &mut Sender, clock: u64, space: &mut [u8]) -> u64 {
-    let answer = match clock_call(sender, clock, space) {
-        Clocked::Refused(number) => -i64::from(number),
-        Clocked::Quiet => 0,
-        Clocked::Sent(length) => length as i64,
-    };
-    figure(answer, space)
-}
-
-fn proved(schedule: &Schedule) -> u64 {
-    let mut sender = proved_open();
-    let mut space = [0; SPACE];
-    let mut sum = 0;
-    for event in &schedule.events {
-        let figure = match event {
-            Event::Offer(clock, text) => {
-                u64::from(lent::sender_offer(&mut sender, *clock, text.as_bytes()))
-            }
-            Event::Clock(clock) => proved_clock(&mut sender, *clock, &mut space),
-        };
-        sum = add(sum, figure);
+/// A call of the proved sender, and its figure.
+fn proved_call(sender: &mut Proved, event: &Event, space: &mut [u8]) -> u64 {
+    let Proved { record, texts } = sender;
+    match event {
+        Event::Offer(clock, text) => {
+            u64::from(lent::sender_offer(record, texts, *clock, text.as_bytes()))
+        }
+        Event::Clock(clock) => {
+            let answer = lent::sender_clock(record, texts, *clock, space);
+            figure(answer, space)
+        }
     }
-    sum
 }
 
 #[inline(never)]
@@ -91,71 +84,97 @@ fn offer(sender: &mut Sender, clock: u64, text: &[u8]) -> Result<(), u8> {
     sender.offer(clock, text)
 }
 
-fn independent(schedule: &Schedule) -> u64 {
-    let mut sender = independent_open();
+#[inline(never)]
+fn clock_call(sender: &mut Sender, clock: u64, space: &mut [u8]) -> Clocked {
+    sender.clock(clock, space)
+}
+
+/// A call of the independent sender, and its figure.
+fn independent_call(sender: &mut Sender, event: &Event, space: &mut [u8]) -> u64 {
+    match event {
+        Event::Offer(clock, text) => {
+            let refusal = offer(sender, *clock, text.as_bytes()).err();
+            u64::from(refusal.unwrap_or(0))
+        }
+        Event::Clock(clock) => {
+            let answer = match clock_call(sender, *clock, space) {
+                Clocked::Refused(number) => -i64::from(number),
+                Clocked::Quiet => 0,
+                Clocked::Sent(length) => length as i64,
+            };
+            figure(answer, space)
+        }
+    }
+}
+
+/// A typed line at a repeat level.
+struct Line<'a> {
+    level: usize,
+    schedule: &'a Schedule,
+}
+
+/// All calls of a line.
+fn all<S>(line: &Line<'_>, mut sender: S, call: impl Fn(&mut S, &Event, &mut [u8]) -> u64) -> u64 {
     let mut space = [0; SPACE];
     let mut sum = 0;
-    for event in &schedule.events {
-        let figure = match event {
-            Event::Offer(clock, text) => {
-                let refusal = offer(&mut sender, *clock, text.as_bytes()).err();
-                u64::from(refusal.unwrap_or(0))
-            }
-            Event::Clock(clock) => independent_clock(&mut sender, *clock, &mut space),
-        };
-        sum = add(sum, figure);
+    for event in &line.schedule.events {
+        sum = add(sum, call(&mut sender, event, &mut space));
     }
     sum
 }
 
-/// Senders as they are before clock calls of one kind.
+fn proved(line: &Line<'_>) -> u64 {
+    all(line, proved_open(line.level), proved_call)
+}
+
+fn independent(line: &Line<'_>) -> u64 {
+    all(line, independent_open(line.level), independent_call)
+}
+
+/// Calls of one kind, and the senders as they are before them.
 #[derive(Default)]
-struct Prepared {
-    proved: Vec<lent::Sender>,
+struct Prepared<'a> {
+    proved: Vec<Proved>,
     independent: Vec<Sender>,
-    clocks: Vec<u64>,
+    events: Vec<&'a Event>,
+    /// How many of them the line has.
+    count: usize,
 }
 
 const PREPARED: usize = 200;
 const TIMES: usize = 500;
 
-/// Runs a schedule and keeps senders before calls that send and before quiet
-/// ones; with the numbers of offers, of calls that send and of quiet ones.
-fn prepare(schedule: &Schedule) -> ([Prepared; 2], [usize; 3]) {
-    let mut prepared = <[Prepared; 2]>::default();
-    let mut counts = [0; 3];
-    let mut ours = proved_open();
-    let mut theirs = independent_open();
+/// Runs a line and keeps senders before offers, before clock calls that send
+/// and before quiet ones.
+fn prepare<'a>(line: &Line<'a>) -> [Prepared<'a>; 3] {
+    let mut prepared = <[Prepared; 3]>::default();
+    let mut ours = proved_open(line.level);
+    let mut theirs = independent_open(line.level);
     let mut space = [0; SPACE];
-    for event in &schedule.events {
-        match event {
-            Event::Offer(clock, text) => {
-                lent::sender_offer(&mut ours, *clock, text.as_bytes());
-                theirs.offer(*clock, text.as_bytes()).ok();
-                counts[0] += 1;
-            }
-            Event::Clock(clock) => {
-                let before = (ours, theirs.clone());
-                lent::sender_clock(&mut ours, *clock, &mut space);
-                let sent = matches!(theirs.clock(*clock, &mut space), Clocked::Sent(_));
-                counts[if sent { 1 } else { 2 }] += 1;
-                let kind = &mut prepared[usize::from(!sent)];
-                if kind.clocks.len() < PREPARED {
-                    kind.proved.push(before.0);
-                    kind.independent.push(before.1);
-                    kind.clocks.push(*clock);
-                }
-            }
+    for event in &line.schedule.events {
+        let before = (ours.clone(), theirs.clone());
+        let figure = proved_call(&mut ours, event, &mut space);
+        independent_call(&mut theirs, event, &mut space);
+        let kind = match (event, figure) {
+            (Event::Offer(..), _) => &mut prepared[0],
+            (Event::Clock(_), 1..) => &mut prepared[1],
+            (Event::Clock(_), 0) => &mut prepared[2],
+        };
+        kind.count += 1;
+        if kind.events.len() < PREPARED {
+            kind.proved.push(before.0);
+            kind.independent.push(before.1);
+            kind.events.push(event);
         }
     }
-    (prepared, counts)
+    prepared
 }
 
-/// Times the clock calls alone, each on a fresh copy of its sender.
+/// Times these calls alone, each on a fresh copy of its sender.
 fn alone<S: Clone>(
     senders: &[S],
-    clocks: &[u64],
-    clock_call: fn(&mut S, u64, &mut [u8]) -> u64,
+    events: &[&Event],
+    call: impl Fn(&mut S, &Event, &mut [u8]) -> u64,
 ) -> Run {
     let mut space = [0; SPACE];
     let mut sum = 0;
@@ -163,49 +182,54 @@ fn alone<S: Clone>(
     for _ in 0..TIMES {
         let mut copies = senders.to_vec();
         let start = Instant::now();
-        for (sender, clock) in copies.iter_mut().zip(clocks) {
-            sum = add(sum, clock_call(sender, *clock, &mut space));
+        for (sender, event) in copies.iter_mut().zip(events) {
+            sum = add(sum, call(sender, event, &mut space));
         }
         time += start.elapsed();
     }
     Run { time, sum }
 }
 
-fn calls_alone(what: &str, prepared: &Prepared) {
-    let clocks = &prepared.clocks;
+fn calls_alone(level: usize, what: &str, name: &str, prepared: &Prepared<'_>) {
+    let events = &prepared.events;
     say!(
-        "SENDING: {what} clock calls alone, {} senders {TIMES} times\n",
-        clocks.len()
+        "SENDING: {what} alone, level {level}, {} senders {TIMES} times\n",
+        events.len()
     );
     contest(
-        clocks.len() * TIMES,
+        events.len() * TIMES,
         "call",
-        ("stewpigeon_sender_clock, proved", &|| {
-            alone(&prepared.proved, clocks, proved_clock)
-        }),
+        (name, &|| alone(&prepared.proved, events, proved_call)),
         ("independent Rust", &|| {
-            alone(&prepared.independent, clocks, independent_clock)
+            alone(&prepared.independent, events, independent_call)
         }),
     );
 }
 
 /// A typed line with clock calls at this pace, and the calls of each kind
 /// alone.
-pub fn line(schedule: &Schedule) {
-    let (prepared, [offers, sent, quiet]) = prepare(schedule);
+pub fn line(level: usize, schedule: &Schedule) {
+    let line = Line { level, schedule };
+    let [offers, sent, quiet] = prepare(&line);
     say!(
-        "SENDING: a typed line, level 2, buffering 300 ms, a clock call every {} ms:\n\
-         {offers} offers, {sent} clock calls that send, {quiet} quiet ones\n",
-        schedule.pace
+        "SENDING: a typed line, level {level}, buffering 300 ms, a clock call every {} ms:\n\
+         {} offers, {} clock calls that send, {} quiet ones\n",
+        schedule.pace,
+        offers.count,
+        sent.count,
+        quiet.count
     );
     contest(
-        sent + quiet,
+        sent.count + quiet.count,
         "clock call, offers included",
-        ("stewpigeon, proved", &|| timed(proved, schedule)),
-        ("independent Rust", &|| timed(independent, schedule)),
+        ("stewpigeon, proved", &|| timed(proved, &line)),
+        ("independent Rust", &|| timed(independent, &line)),
     );
     if schedule.pace == Schedule::OFTEN {
-        calls_alone("sending", &prepared[0]);
-        calls_alone("quiet", &prepared[1]);
+        let [offer, clock] =
+            ["offer", "clock"].map(|call| format!("stewpigeon_sender_{call}_in, proved"));
+        calls_alone(level, "sending clock calls", &clock, &sent);
+        calls_alone(level, "quiet clock calls", &clock, &quiet);
+        calls_alone(level, "offers", &offer, &offers);
     }
 }

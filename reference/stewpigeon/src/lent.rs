@@ -5,7 +5,7 @@
 //! Every call answers on every value of every field.
 
 use crate::library;
-pub use crate::library::{Block, Progress, Receiver, Sender, Settings, Step};
+pub use crate::library::{Progress, Receiver, Sender, Settings, Step, Texts};
 
 /// The numbers in an answer of [`read_into`].
 pub const ANSWER: usize = 19;
@@ -38,14 +38,6 @@ impl Step {
     };
 }
 
-impl Block {
-    pub const ZERO: Block = Block {
-        bytes: [0; 160],
-        len: 0,
-        at: 0,
-    };
-}
-
 impl Sender {
     /// What a refused opening gives.
     pub const ZERO: Sender = Sender {
@@ -59,8 +51,11 @@ impl Sender {
             source: 0,
         },
         clock: 0,
-        waiting: Block::ZERO,
-        blocks: [Block::ZERO; 4],
+        room: 0,
+        len: 0,
+        since: 0,
+        lens: [0; 4],
+        ats: [0; 4],
         count: 0,
         progress: Progress {
             sent: false,
@@ -135,12 +130,14 @@ pub fn write_marks(count: usize, space: &mut [u8]) -> usize {
 }
 
 /// Opens a sender in the lent record: 0, or 1, 2, 3 and a record of zeros.
+/// The texts are zeros afterwards.
 #[inline]
-pub fn sender_open(sender: &mut Sender, settings: Settings) -> u8 {
-    // SAFETY: the record is lent for the call only.
+pub fn sender_open(sender: &mut Sender, texts: &mut Texts, settings: Settings) -> u8 {
+    // SAFETY: record and texts are lent for the call only.
     unsafe {
-        library::stewpigeon_sender_open(
+        library::stewpigeon_sender_open_in(
             sender,
+            texts,
             settings.level,
             settings.buffering,
             settings.t140,
@@ -152,19 +149,22 @@ pub fn sender_open(sender: &mut Sender, settings: Settings) -> u8 {
     }
 }
 
-/// Offers text to a sender: 0, or the refusal's number.
+/// Offers text to a sender, which is written to its texts behind what waits:
+/// 0, or the refusal's number.
 #[inline]
-pub fn sender_offer(sender: &mut Sender, clock: u64, text: &[u8]) -> u8 {
-    // SAFETY: the record, and the slice with its own length, are lent for
-    // the call only.
-    unsafe { library::stewpigeon_sender_offer(sender, clock, text.as_ptr(), text.len()) }
+pub fn sender_offer(sender: &mut Sender, texts: &mut Texts, clock: u64, text: &[u8]) -> u8 {
+    // SAFETY: record and texts, and the slice with its own length, are lent
+    // for the call only.
+    unsafe { library::stewpigeon_sender_offer_in(sender, texts, clock, text.as_ptr(), text.len()) }
 }
 
 /// Writes the packet due: its length, 0 where none is due, or minus the
 /// refusal's number.
 #[inline]
-pub fn sender_clock(sender: &mut Sender, clock: u64, packet: &mut [u8]) -> i64 {
-    // SAFETY: the record, and the slice with its own length, are lent for
-    // the call only.
-    unsafe { library::stewpigeon_sender_clock(sender, clock, packet.as_mut_ptr(), packet.len()) }
+pub fn sender_clock(sender: &mut Sender, texts: &Texts, clock: u64, packet: &mut [u8]) -> i64 {
+    // SAFETY: record and texts, and the slice with its own length, are lent
+    // for the call only.
+    unsafe {
+        library::stewpigeon_sender_clock_in(sender, texts, clock, packet.as_mut_ptr(), packet.len())
+    }
 }

@@ -51,16 +51,6 @@ pub struct Settings {
     pub source: u32,
 }
 
-/// Text and its time: of the waiting room, when its first byte was offered;
-/// of a block, when it was sent.
-#[repr(C)]
-#[derive(Clone, Copy, Debug, PartialEq, Eq)]
-pub struct Block {
-    pub bytes: [u8; 160],
-    pub len: usize,
-    pub at: u64,
-}
-
 /// How far a sender has come.
 #[repr(C)]
 #[derive(Clone, Copy, Debug, PartialEq, Eq)]
@@ -75,20 +65,33 @@ pub struct Progress {
     pub next: u16,
 }
 
-/// A sender's state.
+/// A sender's state but for its texts. A `room` past the last slot counts as
+/// 0, lengths count up to 160, and `count` up to 4.
 #[repr(C)]
 #[derive(Clone, Copy, Debug, PartialEq, Eq)]
 pub struct Sender {
     pub settings: Settings,
     /// The latest accepted clock.
     pub clock: u64,
-    pub waiting: Block,
-    /// The last blocks sent, newest first.
-    pub blocks: [Block; 4],
+    /// The slot of the texts in which text waits, 0 to 4.
+    pub room: usize,
+    /// How many bytes wait there.
+    pub len: usize,
+    /// When the first of them was offered.
+    pub since: u64,
+    /// The lengths of the last blocks sent, newest first.
+    pub lens: [usize; 4],
+    /// When each of them was sent.
+    pub ats: [u64; 4],
     /// How many of them there are.
     pub count: usize,
     pub progress: Progress,
 }
+
+/// A sender's texts: five slots of 160 bytes, used in a circle. The last
+/// blocks sent lie in the slots before the one in which text waits, the
+/// newest nearest.
+pub type Texts = [u8; 800];
 
 extern "C" {
     pub fn stewpigeon_read(
@@ -120,8 +123,9 @@ extern "C" {
 
     pub fn stewpigeon_write_marks(count: usize, space: *mut u8, space_len: usize) -> usize;
 
-    pub fn stewpigeon_sender_open(
+    pub fn stewpigeon_sender_open_in(
         sender: *mut Sender,
+        texts: *mut Texts,
         level: usize,
         buffering: u64,
         t140: u8,
@@ -131,15 +135,17 @@ extern "C" {
         source: u32,
     ) -> u8;
 
-    pub fn stewpigeon_sender_offer(
+    pub fn stewpigeon_sender_offer_in(
         sender: *mut Sender,
+        texts: *mut Texts,
         clock: u64,
         text: *const u8,
         text_len: usize,
     ) -> u8;
 
-    pub fn stewpigeon_sender_clock(
+    pub fn stewpigeon_sender_clock_in(
         sender: *mut Sender,
+        texts: *const Texts,
         clock: u64,
         packet: *mut u8,
         packet_len: usize,

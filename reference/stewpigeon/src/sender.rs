@@ -41,8 +41,11 @@ impl Settings {
 /// assert_eq!(sender.offer(319, b"A"), Err(Refusal::Clock));
 /// # Ok::<(), Refusal>(())
 /// ```
-#[derive(Clone, Debug, PartialEq, Eq)]
-pub struct Sender(lent::Sender);
+#[derive(Clone, Debug)]
+pub struct Sender {
+    record: lent::Sender,
+    texts: lent::Texts,
+}
 
 impl Sender {
     /// The highest repeat level.
@@ -55,17 +58,24 @@ impl Sender {
     /// and a primary with its own.
     pub const LONGEST_PACKET: usize = 12 + 4 * Sender::LEVEL + 1 + 5 * Sender::ROOM;
 
+    /// The slots of its texts: the waiting room, and a block for each repeat.
+    const SLOTS: usize = 1 + Sender::LEVEL;
+
     /// A sender at clock 0.
     pub fn open(settings: Settings) -> Result<Sender, Refusal> {
-        let mut sender = lent::Sender::ZERO;
-        Refusal::check(lent::sender_open(&mut sender, settings))?;
-        Ok(Sender(sender))
+        let mut sender = Sender {
+            record: lent::Sender::ZERO,
+            texts: [0; Sender::SLOTS * Sender::ROOM],
+        };
+        let number = lent::sender_open(&mut sender.record, &mut sender.texts, settings);
+        Refusal::check(number).map(|()| sender)
     }
 
     /// Takes text, which waits for the next packet.
     #[inline]
     pub fn offer(&mut self, clock: u64, text: &[u8]) -> Result<(), Refusal> {
-        Refusal::check(lent::sender_offer(&mut self.0, clock, text))
+        let number = lent::sender_offer(&mut self.record, &mut self.texts, clock, text);
+        Refusal::check(number)
     }
 
     /// Writes the packet due at this clock, if one is, to the front of the
@@ -76,7 +86,7 @@ impl Sender {
         clock: u64,
         space: &'a mut [u8],
     ) -> Result<Option<&'a [u8]>, Refusal> {
-        match lent::sender_clock(&mut self.0, clock, space) {
+        match lent::sender_clock(&mut self.record, &self.texts, clock, space) {
             0 => Ok(None),
             length @ 1.. => Ok(Some(&space[..length as usize])),
             refusal => {
@@ -88,6 +98,25 @@ impl Sender {
 
     /// What it was opened with.
     pub fn settings(&self) -> &Settings {
-        &self.0.settings
+        &self.record.settings
+    }
+
+    /// The text that waits, and then the blocks kept, newest first.
+    fn texts(&self) -> impl Iterator<Item = &[u8]> {
+        let lens = [self.record.len].into_iter().chain(self.record.lens);
+        let lens = lens.take(1 + self.record.count).enumerate();
+        lens.map(|(back, len)| {
+            let slot = (self.record.room + Sender::SLOTS - back) % Sender::SLOTS;
+            &self.texts[slot * Sender::ROOM..][..len]
+        })
     }
 }
+
+/// Texts no longer kept do not count.
+impl PartialEq for Sender {
+    fn eq(&self, other: &Sender) -> bool {
+        self.record == other.record && self.texts().eq(other.texts())
+    }
+}
+
+impl Eq for Sender {}

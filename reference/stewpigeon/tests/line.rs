@@ -124,3 +124,20 @@ fn the_longest_packet() {
     assert_eq!(read.older().len(), Sender::LEVEL);
     assert_eq!(sender.settings().level, Sender::LEVEL);
 }
+
+#[test]
+fn texts_no_longer_kept_do_not_count() {
+    let line = |first: &[u8]| {
+        let mut sender = open(SETTINGS);
+        for (clock, text) in [first, b"B", b"C", b"D", b"E"].into_iter().enumerate() {
+            let clock = 300 * clock as u64;
+            sender.offer(clock, text).unwrap();
+            sent(&mut sender, clock);
+        }
+        sender
+    };
+    assert_eq!(line(b"A"), line(b"a"));
+    let mut other = line(b"A");
+    other.offer(1200, b"F").unwrap();
+    assert_ne!(line(b"A"), other);
+}

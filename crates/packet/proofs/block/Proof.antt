@@ -1,5 +1,10 @@
+use Prim.Native.Nat.{ℕ, _+_}
+use mathlib.Core.Path.{_∙_, ap}
 use borrow.Author.Tests.{lt-ltb, le-ltb}
 use borrow.Author.Needs.{needs}
+use denote.Ref.{now}
+use Rattle.base.specs.Arrays.{part}
+use Rattle.packet.specs.Places.{startOf}
 use Rattle.packet.proofs.block.Statement.{statement}
 use Rattle.packet.proofs.block.Tie as tie
 
@@ -9,15 +14,26 @@ slice-aggregate-result c = search needs
 returns : tie.Need-returns
 returns c = rw (lt-ltb _ _ (c .before .if1 .taken))
 
-add-block-run : tie.Need-add-block-run
-add-block-run c = search needs
+start-of-requires : tie.Need-start-of-requires
+start-of-requires c κs = search needs
 
-block-run-requires : tie.Need-block-run-requires
-block-run-requires c κs = search needs
+add-start-of : tie.Need-add-start-of
+add-start-of c = search needs
+
+start-of-requires-2 : tie.Need-start-of-requires-2
+start-of-requires-2 c κs = search needs
+
+part-requires : tie.Need-part-requires
+part-requires c κs = search needs
 
 returns-2 : tie.Need-returns-2
-returns-2 c = rw (le-ltb _ _ (c .before .if1 .left)) (c .block-run .ensures)
+returns-2 c =
+    let a = c .before .before .before .before .before .args in
+    let p = now (a .bytes) in
+    rw (le-ltb _ _ (c .before .before .before .if1 .left))
+    (c .part .ensures
+    ∙ ap (λ (k : ℕ). part k (c .before .start-of2 .result) p) (c .before .before .start-of .ensures)
+    ∙ ap (λ (k : ℕ). part (startOf (a .packet) (a .k)) k p) (c .before .start-of2 .ensures))
 
 pub block-spec : {M : Type 1} → statement M
-block-spec =
-    tie.close (tie.spec slice-aggregate-result returns add-block-run block-run-requires returns-2)
+block-spec = tie.close (tie.spec slice-aggregate-result returns start-of-requires add-start-of start-of-requires-2 part-requires returns-2)

@@ -3,7 +3,7 @@ use native.Mathlib.Omega.{arith}
 use lib.ListN.{length, List·getD-eq-default}
 use borrow.Author.Needs.{needs}
 use Rattle.packet.specs.declared.Older.{Older}
-use Rattle.packet.specs.Limits.{level}
+use Rattle.packet_spec.specs.Limits.{level}
 use Rattle.packet.specs.Places.{none}
 use Rattle.packet.proofs.older_start.Statement.{statement}
 use Rattle.packet.proofs.older_start.Tie as tie

@@ -1,7 +1,7 @@
 use mathlib.Core.Path.{sym}
 use borrow.Author.Needs.{needs}
 use denote.Ref.{now}
-use Rattle.packet.proofs.PartOf.{part-crossed, part-past, part-mid}
+use Rattle.base.proofs.PartOf.{part-crossed, part-past, part-mid}
 use Rattle.packet.proofs.part.Statement.{statement}
 use Rattle.packet.proofs.part.Tie as tie
 

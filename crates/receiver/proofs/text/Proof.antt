@@ -2,7 +2,8 @@ use mathlib.Core.Path.{_∙_, ap, sym}
 use borrow.Author.Needs.{needs}
 use denote.Ref.{now}
 use Rattle.receiver.specs.declared.Answer.{Answer}
-use Rattle.receiver.specs.Step.{answered, textGiven}
+use Rattle.receiver.specs.View.{answered}
+use Rattle.receiver_spec.specs.Step.{textGiven}
 use Rattle.receiver.proofs.text.Statement.{statement}
 use Rattle.receiver.proofs.text.Tie as tie
 

@@ -2,6 +2,7 @@
 //! the same again on the same record, and touches nothing else.
 
 use super::guarded::{Guarded, Lent};
+use super::held::{Held, Lending, Meaning, LEVEL, ROOM, SLOTS};
 use super::receivers::{any_receiver, any_step};
 use super::rules;
 use super::tally::{Answer, Call, Tally};
@@ -40,16 +41,6 @@ fn time(random: &mut Random, clock: u64) -> u64 {
     }
 }
 
-fn block(random: &mut Random, clock: u64) -> lent::Block {
-    let mut bytes = [0; 160];
-    bytes.fill_with(|| random.byte());
-    lent::Block {
-        bytes,
-        len: size(random, 160),
-        at: time(random, clock),
-    }
-}
-
 fn settings(random: &mut Random) -> lent::Settings {
     let any = random.number();
     let level = random.below(5);
@@ -76,23 +67,35 @@ fn settings(random: &mut Random) -> lent::Settings {
     settings
 }
 
-/// A sender's record with anything in it.
-pub fn sender(random: &mut Random) -> lent::Sender {
+/// A sender's record and texts with anything in them.
+pub fn sender(random: &mut Random) -> Held {
     let any = random.number();
     let clock = random.pick(&[0, 1000, 20_000, any, u64::MAX - 600, u64::MAX]);
-    lent::Sender {
+    let record = lent::Sender {
         settings: settings(random),
         clock,
-        waiting: block(random, clock),
-        blocks: [(); 4].map(|()| block(random, clock)),
-        count: size(random, 4),
+        room: size(random, LEVEL),
+        len: size(random, ROOM),
+        since: time(random, clock),
+        lens: [(); LEVEL].map(|()| size(random, ROOM)),
+        ats: [(); LEVEL].map(|()| time(random, clock)),
+        count: size(random, LEVEL),
         progress: lent::Progress {
             sent: !random.once_in(4),
             last: time(random, clock),
             last_text: time(random, clock),
             next: random.number() as u16,
         },
-    }
+    };
+    let texts = texts(random);
+    Held { record, texts }
+}
+
+/// Texts of any bytes.
+pub fn texts(random: &mut Random) -> lent::Texts {
+    let mut texts = [0; SLOTS * ROOM];
+    texts.fill_with(|| random.byte());
+    texts
 }
 
 /// A clock at, after or before the latest.
@@ -105,9 +108,54 @@ fn clock(random: &mut Random, sender: &lent::Sender) -> u64 {
     }
 }
 
+/// The sender afterwards is the one due, and it means what the rules say;
+/// nothing else changed.
+fn as_due(library: &mut Lending, again: &Held, wanted: &Held, meant: &Meaning) -> bool {
+    let held = library.held();
+    held.counted() == wanted.counted()
+        && held == *again
+        && Meaning::of(&held) == *meant
+        && library.kept()
+}
+
+/// What a difference shows of both senders.
+fn states(before: &Held, library: &mut Lending, wanted: &Held, meant: &Meaning) -> String {
+    let held = library.held();
+    let kept = library.kept();
+    format!(
+        "before:  {:?}\n{}\nlibrary: {:?}\n{}\ndue:     {:?}\n{}\nto mean {meant:?}\n\
+         bytes around record and texts kept: {kept}",
+        before.record,
+        hex(&before.texts),
+        held.record,
+        hex(&held.texts),
+        wanted.record,
+        hex(&wanted.texts)
+    )
+}
+
+/// A call was done on this record, which may be such as no call leaves.
+fn meet(record: &lent::Sender, done: bool, tally: &mut Tally) {
+    let count = record.count.min(LEVEL);
+    let long = record.lens[..count].iter().any(|len| *len > ROOM);
+    for (what, met) in [
+        (
+            "calls done in any state: a room past the last slot",
+            record.room >= SLOTS,
+        ),
+        ("calls done in any state: a block's length above 160", long),
+        (
+            "calls done in any state: a count above 4",
+            record.count > LEVEL,
+        ),
+    ] {
+        tally.meet(what, done && met);
+    }
+}
+
 fn offer(random: &mut Random, tally: &mut Tally) -> Result<(), String> {
     let before = sender(random);
-    let clock = clock(random, &before);
+    let clock = clock(random, &before.record);
     let length = random.pick(&[0, 1, 5, 159, 160, 161, 400]);
     let mut text = random.text(length);
     if random.once_in(10) {
@@ -115,22 +163,25 @@ fn offer(random: &mut Random, tally: &mut Tally) -> Result<(), String> {
     }
     let lent = Lent::new(random, &text);
     let untouched = lent.clone();
-    let mut library = Guarded::new(random, before);
-    let number = lent::sender_offer(&mut library.value, clock, lent.bytes());
+    let mut library = Lending::new(random, before);
+    let number = library.offer(clock, lent.bytes());
     let mut again = before;
-    let repeated = lent::sender_offer(&mut again, clock, lent.bytes());
-    let mut wanted = before;
-    let due = rules::offer(&mut wanted, clock, &text);
+    let repeated = lent::sender_offer(&mut again.record, &mut again.texts, clock, lent.bytes());
+    let mut meant = Meaning::of(&before);
+    let due = rules::offer(&mut meant, clock, &text);
+    let wanted = match due {
+        0 => before.offered(clock, &text),
+        _ => before,
+    };
     if (number, repeated) != (due, due)
-        || library.value != wanted
-        || again != wanted
-        || !library.kept()
+        || !as_due(&mut library, &again, &wanted, &meant)
+        || number != 0 && library.held() != before
         || lent != untouched
     {
         return Err(format!(
-            "an offer at {clock} of {}\nto {before:?}\nlibrary: {number} {:?}\nrules: {due} {wanted:?}",
+            "an offer at {clock} of {}\nlibrary: {number} and {repeated}, rules: {due}\n{}",
             hex(&text),
-            library.value
+            states(&before, &mut library, &wanted, &meant)
         ));
     }
     let answer = match number {
@@ -139,37 +190,47 @@ fn offer(random: &mut Random, tally: &mut Tally) -> Result<(), String> {
     };
     tally.add(Call::Offer, answer);
     tally.meet("offers to senders in any state taken", number == 0);
+    meet(&before.record, number == 0, tally);
     Ok(())
 }
 
 fn clock_call(random: &mut Random, tally: &mut Tally) -> Result<(), String> {
     let before = sender(random);
-    let clock = clock(random, &before);
-    let length = rules::clock(&mut before.clone(), clock, &mut [0; 900]).max(0) as usize;
+    let clock = clock(random, &before.record);
+    let length = rules::clock(&mut Meaning::of(&before), clock, &mut [0; 900]).max(0) as usize;
     let far = random.below(length.max(1));
     let space = random.pick(&[length, length, length.saturating_sub(1), far, length + 9]);
     let mut ours = Lent::any(random, space);
     let mut theirs = ours.clone();
     let mut once_more = ours.clone();
-    let mut library = Guarded::new(random, before);
-    let answer = lent::sender_clock(&mut library.value, clock, ours.bytes_mut());
+    let mut library = Lending::new(random, before);
+    let answer = library.clock(clock, ours.bytes_mut());
     let mut again = before;
-    let repeated = lent::sender_clock(&mut again, clock, once_more.bytes_mut());
-    let mut wanted = before;
-    let due = rules::clock(&mut wanted, clock, theirs.bytes_mut());
+    let repeated = lent::sender_clock(
+        &mut again.record,
+        &again.texts,
+        clock,
+        once_more.bytes_mut(),
+    );
+    let mut meant = Meaning::of(&before);
+    let due = rules::clock(&mut meant, clock, theirs.bytes_mut());
+    let wanted = match due {
+        1.. => before.sent(clock),
+        0 => before.at(clock),
+        _ => before,
+    };
     if (answer, repeated) != (due, due)
-        || library.value != wanted
-        || again != wanted
-        || !library.kept()
+        || !as_due(&mut library, &again, &wanted, &meant)
+        || answer <= 0 && library.held() != wanted
         || ours != theirs
         || once_more != theirs
     {
         return Err(format!(
-            "a clock call at {clock} with {space} bytes\non {before:?}\n\
-             library: {answer} {} {:?}\nrules: {due} {} {wanted:?}",
+            "a clock call at {clock} with {space} bytes\n\
+             library: {answer} and {repeated} {}\nrules:   {due} {}\n{}",
             hex(ours.bytes()),
-            library.value,
-            hex(theirs.bytes())
+            hex(theirs.bytes()),
+            states(&before, &mut library, &wanted, &meant)
         ));
     }
     let kind = match answer {
@@ -179,6 +240,7 @@ fn clock_call(random: &mut Random, tally: &mut Tally) -> Result<(), String> {
     };
     tally.add(Call::Clock, kind);
     tally.meet("packets sent by senders in any state", answer > 0);
+    meet(&before.record, answer > 0, tally);
     Ok(())
 }
 

@@ -3,6 +3,7 @@
 
 mod any_state;
 mod guarded;
+mod held;
 mod lines;
 mod lists;
 mod named;

@@ -1,25 +1,13 @@
-//! The calls' rules on any record, also on one that no call leaves: a length
-//! counts up to 160, a count of blocks up to 4, and a time that has not come
-//! yet is no time ago.
+//! The calls' rules on any sender and receiver, also on such as no call
+//! leaves: a time that has not come yet is no time ago.
 
+use std::mem::take;
+
+use super::held::{Block, Meaning, LEVEL, ROOM};
 use independent::read;
 use stewpigeon::lent;
 
-const ROOM: usize = 160;
-const LEVEL: usize = 4;
 const OLDEST: u64 = 16_383;
-
-fn text(block: &lent::Block) -> &[u8] {
-    &block.bytes[..block.len.min(ROOM)]
-}
-
-fn block(text: &[u8], at: u64) -> lent::Block {
-    let mut block = lent::Block::ZERO;
-    block.bytes[..text.len()].copy_from_slice(text);
-    block.len = text.len();
-    block.at = at;
-    block
-}
 
 fn types_bad(t140: u8, red: u8) -> bool {
     let good = 96..=127;
@@ -38,7 +26,7 @@ fn settings_number(settings: &lent::Settings) -> u8 {
     }
 }
 
-pub fn offer(sender: &mut lent::Sender, clock: u64, offered: &[u8]) -> u8 {
+pub fn offer(sender: &mut Meaning, clock: u64, offered: &[u8]) -> u8 {
     let number = settings_number(&sender.settings);
     if number != 0 {
         return number;
@@ -52,49 +40,40 @@ pub fn offer(sender: &mut lent::Sender, clock: u64, offered: &[u8]) -> u8 {
     if std::str::from_utf8(offered).is_err() {
         return 6;
     }
-    let waits = text(&sender.waiting);
-    let joined = [waits, offered].concat();
-    if joined.len() > ROOM {
+    if sender.waiting.len() + offered.len() > ROOM {
         return 4;
     }
-    let at = if waits.is_empty() {
-        clock
-    } else {
-        sender.waiting.at
-    };
-    sender.waiting = block(&joined, at);
+    if sender.waiting.is_empty() {
+        sender.since = clock;
+    }
+    sender.waiting.extend(offered);
     sender.clock = clock;
     0
 }
 
-/// The blocks kept, newest first.
-fn kept(sender: &lent::Sender) -> &[lent::Block] {
-    &sender.blocks[..sender.count.min(LEVEL)]
-}
-
 /// The blocks that a packet at this clock repeats, newest first.
-fn run(sender: &lent::Sender, clock: u64) -> &[lent::Block] {
-    let kept = kept(sender);
-    let most = sender.settings.level.min(kept.len());
-    let fresh = |block: &&lent::Block| block.at <= clock && clock - block.at <= OLDEST;
-    let run = kept[..most].iter().take_while(fresh).count();
-    &kept[..run]
+fn run(sender: &Meaning, clock: u64) -> &[Block] {
+    let blocks = &sender.blocks;
+    let most = sender.settings.level.min(blocks.len());
+    let fresh = |block: &&Block| block.at <= clock && clock - block.at <= OLDEST;
+    let run = blocks[..most].iter().take_while(fresh).count();
+    &blocks[..run]
 }
 
-fn due(sender: &lent::Sender, clock: u64) -> bool {
+fn due(sender: &Meaning, clock: u64) -> bool {
     let rest = clock.saturating_sub(sender.progress.last);
     let rested = !sender.progress.sent || rest >= sender.settings.buffering;
     let mut repeats = run(sender, clock).iter();
-    rested && (!text(&sender.waiting).is_empty() || repeats.any(|block| !text(block).is_empty()))
+    rested && (!sender.waiting.is_empty() || repeats.any(|block| !block.text.is_empty()))
 }
 
-fn marker(sender: &lent::Sender) -> bool {
-    let after = sender.waiting.at.saturating_sub(sender.progress.last_text);
-    let typed = !text(&sender.waiting).is_empty();
+fn marker(sender: &Meaning) -> bool {
+    let after = sender.since.saturating_sub(sender.progress.last_text);
+    let typed = !sender.waiting.is_empty();
     !sender.progress.sent || typed && after > sender.settings.buffering
 }
 
-fn packet(sender: &lent::Sender, clock: u64) -> Vec<u8> {
+fn packet(sender: &Meaning, clock: u64) -> Vec<u8> {
     let settings = &sender.settings;
     let plain = settings.level == 0;
     let payload_type = if plain { settings.t140 } else { settings.red };
@@ -106,7 +85,7 @@ fn packet(sender: &lent::Sender, clock: u64) -> Vec<u8> {
     let run = run(sender, clock);
     for block in run.iter().rev() {
         let offset = ((clock - block.at) as u32) << 10;
-        let header = offset | text(block).len() as u32;
+        let header = offset | block.text.len() as u32;
         packet.push(0x80 | settings.t140);
         packet.extend(&header.to_be_bytes()[1..]);
     }
@@ -114,41 +93,29 @@ fn packet(sender: &lent::Sender, clock: u64) -> Vec<u8> {
         packet.push(settings.t140);
     }
     for block in run.iter().rev() {
-        packet.extend(text(block));
+        packet.extend(&block.text);
     }
-    packet.extend(text(&sender.waiting));
+    packet.extend(&sender.waiting);
     packet
 }
 
-/// The sender behind its packet: zeros past lengths and counts.
-fn sent(sender: &lent::Sender, clock: u64) -> lent::Sender {
-    let primary = block(text(&sender.waiting), clock);
-    let mut blocks = [lent::Block::ZERO; LEVEL];
-    let mut count = 0;
-    for (place, block) in blocks.iter_mut().zip([primary].iter().chain(kept(sender))) {
-        *place = *block;
-        count += 1;
+/// The sender goes on behind its packet.
+fn sent(sender: &mut Meaning, clock: u64) {
+    let text = take(&mut sender.waiting);
+    let progress = &mut sender.progress;
+    progress.sent = true;
+    progress.last = clock;
+    if !text.is_empty() {
+        progress.last_text = clock;
     }
-    let progress = sender.progress;
-    lent::Sender {
-        settings: sender.settings,
-        clock,
-        waiting: lent::Block::ZERO,
-        blocks,
-        count,
-        progress: lent::Progress {
-            sent: true,
-            last: clock,
-            last_text: match primary.len {
-                0 => progress.last_text,
-                _ => clock,
-            },
-            next: progress.next.wrapping_add(1),
-        },
-    }
+    progress.next = progress.next.wrapping_add(1);
+    sender.clock = clock;
+    sender.since = 0;
+    sender.blocks.insert(0, Block { text, at: clock });
+    sender.blocks.truncate(LEVEL);
 }
 
-pub fn clock(sender: &mut lent::Sender, clock: u64, space: &mut [u8]) -> i64 {
+pub fn clock(sender: &mut Meaning, clock: u64, space: &mut [u8]) -> i64 {
     let number = settings_number(&sender.settings);
     if number != 0 {
         return -i64::from(number);
@@ -165,7 +132,7 @@ pub fn clock(sender: &mut lent::Sender, clock: u64, space: &mut [u8]) -> i64 {
         return -8;
     };
     place.copy_from_slice(&packet);
-    *sender = sent(sender, clock);
+    sent(sender, clock);
     packet.len() as i64
 }
 

@@ -1,10 +1,10 @@
 //! A sender of the library beside an independent one.
 
-use super::guarded::{Guarded, Lent};
+use super::guarded::Lent;
+use super::held::{self, Held, Lending, Meaning, LEVEL, ROOM, SLOTS};
 use super::tally::{Answer, Call, Tally};
 use crate::check::hex;
 use crate::random::Random;
-use independent::block::Block;
 use independent::sender::{Clocked, Sender, Settings};
 use stewpigeon::lent;
 
@@ -52,8 +52,12 @@ impl Space {
 }
 
 pub struct Pair {
-    library: Box<Guarded<lent::Sender>>,
+    library: Lending,
     independent: Sender,
+    /// How many packets they sent.
+    packets: usize,
+    /// What the library's texts must be.
+    texts: lent::Texts,
 }
 
 pub fn library_settings(settings: &Settings) -> lent::Settings {
@@ -68,36 +72,51 @@ pub fn library_settings(settings: &Settings) -> lent::Settings {
     }
 }
 
-fn block(block: &Block) -> lent::Block {
-    let mut bytes = [0; 160];
-    bytes[..block.len()].copy_from_slice(block.text());
-    lent::Block {
-        bytes,
-        len: block.len(),
-        at: block.clock,
+fn progress(sender: &Sender) -> lent::Progress {
+    lent::Progress {
+        sent: sender.last_packet().is_some(),
+        last: sender.last_packet().unwrap_or(0),
+        last_text: sender.last_text().unwrap_or(0),
+        next: sender.sequence(),
     }
 }
 
-/// The record of an independent sender: zeros past lengths and counts.
-fn record(sender: &Sender) -> lent::Sender {
-    let mut blocks = [lent::Block::ZERO; 4];
+/// The record of an independent sender in this slot: zeros past its count.
+fn record(sender: &Sender, room: usize) -> lent::Sender {
+    let mut lens = [0; LEVEL];
+    let mut ats = [0; LEVEL];
     let mut count = 0;
-    for (place, sent) in blocks.iter_mut().zip(sender.blocks()) {
-        *place = block(sent);
+    for block in sender.blocks() {
+        lens[count] = block.len();
+        ats[count] = block.clock;
         count += 1;
     }
     lent::Sender {
         settings: library_settings(sender.settings()),
         clock: sender.latest(),
-        waiting: block(sender.waiting()),
-        blocks,
+        room,
+        len: sender.waiting().len(),
+        since: sender.waiting().clock,
+        lens,
+        ats,
         count,
-        progress: lent::Progress {
-            sent: sender.last_packet().is_some(),
-            last: sender.last_packet().unwrap_or(0),
-            last_text: sender.last_text().unwrap_or(0),
-            next: sender.sequence(),
-        },
+        progress: progress(sender),
+    }
+}
+
+/// What an independent sender says of itself.
+fn meaning(sender: &Sender) -> Meaning {
+    let blocks = sender.blocks().map(|block| held::Block {
+        text: block.text().to_vec(),
+        at: block.clock,
+    });
+    Meaning {
+        settings: library_settings(sender.settings()),
+        clock: sender.latest(),
+        waiting: sender.waiting().text().to_vec(),
+        since: sender.waiting().clock,
+        blocks: blocks.collect(),
+        progress: progress(sender),
     }
 }
 
@@ -109,15 +128,18 @@ impl Pair {
         tally: &mut Tally,
     ) -> Result<Pair, String> {
         let before = super::any_state::sender(random);
-        let mut library = Box::new(Guarded::new(random, before));
-        let number = lent::sender_open(&mut library.value, library_settings(settings));
+        let mut library = Lending::new(random, before);
+        let number = library.open(library_settings(settings));
         let opened = Sender::open(*settings);
         let wanted = *opened.as_ref().err().unwrap_or(&0);
         let mut pair = Pair {
             library,
             independent: opened.unwrap_or_else(|_| Sender::zero()),
+            packets: 0,
+            texts: Held::ZERO.texts,
         };
-        if number != wanted || !pair.same() {
+        let refused = number != 0;
+        if number != wanted || !pair.same() || refused && pair.held() != Held::ZERO {
             return Err(format!(
                 "opening a sender, {settings:?}: {number}, {wanted} is due\n{}",
                 pair.states()
@@ -130,6 +152,12 @@ impl Pair {
                 number => Answer::Refused(number),
             },
         );
+        // What lies in the texts and is no text of the sender does not count,
+        // and stays.
+        if !refused && random.once_in(2) {
+            pair.texts = super::any_state::texts(random);
+            pair.library.fill(pair.texts);
+        }
         Ok(pair)
     }
 
@@ -138,22 +166,46 @@ impl Pair {
         self.independent.waiting().text()
     }
 
-    /// The library's record.
-    pub fn record(&self) -> lent::Sender {
-        self.library.value
+    /// The library's record and texts.
+    pub fn held(&self) -> Held {
+        self.library.held()
     }
 
-    /// The states are the same, and nothing around the library's changed.
+    /// The slot in which text waits: each packet leaves its own.
+    fn room(&self) -> usize {
+        self.packets % SLOTS
+    }
+
+    /// What the library's record and texts must be.
+    fn wanted(&self) -> Held {
+        Held {
+            record: record(&self.independent, self.room()),
+            texts: self.texts,
+        }
+    }
+
+    /// The states are the same, field by field, byte by byte and in what they
+    /// mean, and nothing around the library's changed.
     fn same(&mut self) -> bool {
-        self.library.kept() && self.library.value == record(&self.independent)
+        let held = self.held();
+        self.library.kept()
+            && held == self.wanted()
+            && Meaning::of(&held) == meaning(&self.independent)
     }
 
     fn states(&mut self) -> String {
         let kept = self.library.kept();
+        let [held, wanted] = [self.held(), self.wanted()];
         format!(
-            "library:     {:?}\nindependent: {:?}\nbytes around the record kept: {kept}",
-            self.library.value,
-            record(&self.independent)
+            "library:     {:?}\n{}\nto mean      {:?}\n\
+             independent: {:?}\n{}\nto mean      {:?}\n\
+             bytes around record and texts kept: {kept}",
+            held.record,
+            hex(&held.texts),
+            Meaning::of(&held),
+            wanted.record,
+            hex(&wanted.texts),
+            meaning(&self.independent)
         )
     }
 
@@ -167,17 +219,24 @@ impl Pair {
     ) -> Result<u8, String> {
         let lent = Lent::new(random, text);
         let untouched = lent.clone();
-        let number = lent::sender_offer(&mut self.library.value, clock, lent.bytes());
+        let before = self.held();
+        let number = self.library.offer(clock, lent.bytes());
+        let place = self.room() * ROOM + self.waiting().len();
         let wanted = self.independent.offer(clock, text).err().unwrap_or(0);
+        if wanted == 0 {
+            self.texts[place..][..text.len()].copy_from_slice(text);
+        }
         let what = if number != wanted {
             "the answers differ"
+        } else if number != 0 && self.held() != before {
+            "a refusal changed the sender"
         } else if !self.same() {
             "the senders differ afterwards"
         } else if lent != untouched {
             "bytes of the text or around it changed"
         } else {
             tally.meet("offers that fill the waiting room", {
-                number == 0 && self.waiting().len() == 160
+                number == 0 && self.waiting().len() == ROOM
             });
             tally.add(
                 Call::Offer,
@@ -216,8 +275,10 @@ impl Pair {
         };
         let mut ours = Lent::any(random, length);
         let mut theirs = ours.clone();
-        let answer = lent::sender_clock(&mut self.library.value, clock, ours.bytes_mut());
+        let before = self.held();
+        let answer = self.library.clock(clock, ours.bytes_mut());
         let clocked = self.independent.clock(clock, theirs.bytes_mut());
+        self.packets += usize::from(matches!(clocked, Clocked::Sent(_)));
         let wanted = match clocked {
             Clocked::Refused(number) => -i64::from(number),
             Clocked::Quiet => 0,
@@ -227,6 +288,10 @@ impl Pair {
             "the answers differ"
         } else if ours != theirs {
             "the lent bytes, or those around them, differ"
+        } else if answer < 0 && self.held() != before {
+            "a refusal changed the sender"
+        } else if answer == 0 && self.held() != before.at(clock) {
+            "a quiet call changed more than the clock"
         } else if !self.same() {
             "the senders differ afterwards"
         } else {
@@ -259,6 +324,9 @@ impl Pair {
         tally.meet("packets sent in the clock's last 20 s", sent && last);
         tally.meet("packets sent with number 65,535", {
             sent && self.independent.sequence() == 0
+        });
+        tally.meet("packets sent from the last slot", {
+            sent && self.room() == 0
         });
     }
 }

@@ -44,7 +44,8 @@ use Rattle.packet.proofs.Outcome as O
 use Rattle.packet.proofs.Outcome.Laws as O′
 use Rattle.receiver.specs.declared.Receiver.{Receiver}
 use Rattle.receiver.specs.declared.Opened.{Opened}
-use Rattle.receiver.specs.Opening.{Opening, opening, openingOf}
+use Rattle.receiver_spec.specs.Opening.{Opening, openingOf}
+use Rattle.receiver.specs.View.{opening}
 use Rattle.receiver.proofs.Advancing.{mT}
 use Rattle.receiver.proofs.Receiver as T
 use Rattle.receiver.proofs.Receiver.Laws as T′
@@ -54,10 +55,10 @@ use Rattle.receiver.proofs.Receiver.open as receiver-open
 use Rattle.receiver.proofs.Receiver.open.Symbol as open-def
 use Rattle.receiver.proofs.Receiver.open.Symbol.{name as #receiver·Receiver·open}
 use Rattle.receiver.proofs.Receiver.open.Met as open-thm
-use Rattle.ffi.proofs.number_of as number-of
-use Rattle.ffi.proofs.number_of.Symbol as number-of-def
-use Rattle.ffi.proofs.number_of.Symbol.{name as #ffi·number-of}
-use Rattle.ffi.proofs.number_of.Met as number-of-thm
+use Rattle.boundary.proofs.number_of as number-of
+use Rattle.boundary.proofs.number_of.Symbol as number-of-def
+use Rattle.boundary.proofs.number_of.Symbol.{name as #boundary·number-of}
+use Rattle.boundary.proofs.number_of.Met as number-of-thm
 use Rattle.ffi.proofs.receiving.stewpigeon_receiver_open.Key.{name as #ffi·receiving·stewpigeon-receiver-open}
 use Rattle.ffi.proofs.receiving.stewpigeon_receiver_open as f
 use Rattle.ffi.proofs.receiving.stewpigeon_receiver_open.Statement as stated
@@ -121,7 +122,7 @@ module _ {M : Type 1} (𝓤 : URA M) (H : Heap 𝓤) (A : Atoms 𝓤) (W : Given
       says ! (e₂ ∙ ap (λ (y : Opening). y .number) e, ap (λ (y : Opening). y .receiver) e) $ nothing ! $ move ! (4 ∷ 0 ∷ []) $ join ! $ frame ! $
       move ! (1 ∷ 2 ∷ []) $ feqI ! (List Val) (vptr b o ∷ []) (vptr b o ∷ []) refl $ fjoin3 ! $ nothing ! $ owned ! u8 (Is u8) (uint-makes 𝓤 H A W w8) m _ (refl, gm) $ fjoin ! $ owned ! u8 (Is u8) (uint-makes 𝓤 H A W w8) n _ (refl, gn) $ fjoin ! $ move ! (1 ∷ 0 ∷ []) $ fjoin ! $ done !
 
-  module _ (C : Calls 𝓤 H) (Λ : Loops 𝓤 H) (fm : FmC 𝓤 H (W .laws) C) (known-open : Triple 𝓤 (C #receiver·Receiver·open) (Open 𝓤 H A at-mem run)) (known-number : Triple 𝓤 (C #ffi·number-of) (NumberOf 𝓤 H A at-mem run)) where
+  module _ (C : Calls 𝓤 H) (Λ : Loops 𝓤 H) (fm : FmC 𝓤 H (W .laws) C) (known-open : Triple 𝓤 (C #receiver·Receiver·open) (Open 𝓤 H A at-mem run)) (known-number : Triple 𝓤 (C #boundary·number-of) (NumberOf 𝓤 H A at-mem run)) where
     walk : ent 𝓤 (onEntry 𝓤 H A f.signature (κ, tt) (q, tt) x at) (WpFn 𝓤 H C Λ code.function (vptr b o ∷ vint w8 n ∷ vint w8 m ∷ []) Post)
     walk =
         qed W ((‵ (flft κ q) ⊛ ‵ ftrue) ∷ ‵ (owns (MutRef (named 0) κ T.the-row ∷ u8 ∷ u8 ∷ []) x at) ∷ []) ∵ split ! $ move ! (2 ∷ []) $ fsplit ! $ move ! (1 ∷ []) $ fsplit ! $
@@ -156,14 +157,14 @@ module _ {M : Type 1} (𝓤 : URA M) (H : Heap 𝓤) (A : Atoms 𝓤) (W : Given
         keep ! (0 ∷ 1 ∷ 2 ∷ 3 ∷ []) $ by ! (exits (gn .1) (gm .1) r e k e₂ w′))))))))))))))))))
 
 module _ {M : Type 1} (𝓤 : URA M) (H : Heap 𝓤) (A : Atoms 𝓤) (W : Given 𝓤 H A) (at-mem : Memory → SProp 𝓤) (run : Routine → Fun 𝓤) where
-  open-walks : (C : Calls 𝓤 H) (Λ : Loops 𝓤 H) → FmC 𝓤 H (W .laws) C → Triple 𝓤 (C #receiver·Receiver·open) (Open 𝓤 H A at-mem run) → Triple 𝓤 (C #ffi·number-of) (NumberOf 𝓤 H A at-mem run) → Walks 𝓤 H A f.ended stayed (WpFn 𝓤 H C Λ code.function) (f.clauses 𝓤 H A at-mem run)
+  open-walks : (C : Calls 𝓤 H) (Λ : Loops 𝓤 H) → FmC 𝓤 H (W .laws) C → Triple 𝓤 (C #receiver·Receiver·open) (Open 𝓤 H A at-mem run) → Triple 𝓤 (C #boundary·number-of) (NumberOf 𝓤 H A at-mem run) → Walks 𝓤 H A f.ended stayed (WpFn 𝓤 H C Λ code.function) (f.clauses 𝓤 H A at-mem run)
   open-walks C Λ fm known-open known-number = walked 𝓤 H A f.ended stayed (f.clauses 𝓤 H A at-mem run) (WpFn 𝓤 H C Λ code.function) (λ κs. (ptr-vals, (uint-vals w8, (uint-vals w8, tt)))) (λ κs. (mut-tells (named 0) (κs .0) T.the-row, (uint-tells w8, (uint-tells w8, tt))))
       (λ κs qs bounds a _ _. via 𝓤 _ (fst∗ 𝓤 _ (emp 𝓤)) (walk 𝓤 H A W at-mem run (κs .0) (qs .0) (a .0 .ptr .0) (a .0 .ptr .1) (a .0 .name) (a .0 .now) (a .1 .0) (a .1 .1 .0) C Λ fm known-open known-number))
 
   goes : AllGo 𝓤 H A W 1 (f.signature .params) (f.ended .kept) stayed
   goes = (goes-ref 𝓤 H A W 1 0 tt (plain (λ _. T.the-row)), (goes-none 𝓤 H A W 1 (λ _. u8) yes (λ κs x f. refl), (goes-none 𝓤 H A W 1 (λ _. u8) yes (λ κs x f. refl), tt)))
 
-open-meets : {M : Type 1} (𝓤 : URA M) (H : Heap 𝓤) (A : Atoms 𝓤) (W : Given 𝓤 H A) (at-mem : Memory → SProp 𝓤) (run : Routine → Fun 𝓤) (𝓣 : Tables 𝓤 H) → Triple 𝓤 (𝓣 .C #receiver·Receiver·open) (Open 𝓤 H A at-mem run) → Triple 𝓤 (𝓣 .C #ffi·number-of) (NumberOf 𝓤 H A at-mem run)
+open-meets : {M : Type 1} (𝓤 : URA M) (H : Heap 𝓤) (A : Atoms 𝓤) (W : Given 𝓤 H A) (at-mem : Memory → SProp 𝓤) (run : Routine → Fun 𝓤) (𝓣 : Tables 𝓤 H) → Triple 𝓤 (𝓣 .C #receiver·Receiver·open) (Open 𝓤 H A at-mem run) → Triple 𝓤 (𝓣 .C #boundary·number-of) (NumberOf 𝓤 H A at-mem run)
     → Meets 𝓤 H A f.signature (WpFn 𝓤 H (𝓣 .C) (𝓣 .Λ) code.function) (f.spec 𝓤 H A at-mem run)
 open-meets 𝓤 H A W at-mem run 𝓣 known-open known-number = walk-meets 𝓤 H A f.ended stayed W (goes 𝓤 H A W at-mem run) (f.clauses 𝓤 H A at-mem run) (WpFn 𝓤 H (𝓣 .C) (𝓣 .Λ) code.function) (WpFn-mono 𝓤 H (W .laws) 𝓣 code.function) (open-walks 𝓤 H A W at-mem run (𝓣 .C) (𝓣 .Λ) (fmOf 𝓤 H (W .laws) 𝓣) known-open known-number)
 
@@ -174,4 +175,4 @@ stewpigeon-receiver-open-spec 𝓤 H 𝓜 𝓖 𝓡 =
     (tables 𝓤 H 𝓜 𝓡 code.env .C) (tables 𝓤 H 𝓜 𝓡 code.env .Λ) #ffi·receiving·stewpigeon-receiver-open code.function (code.unfolded 𝓤 H 𝓜 𝓡)
     (open-meets 𝓤 H (𝓖 .A) (givenOf 𝓤 H 𝓜 𝓖) (𝓜 .mem) (𝓡 .run) (tablesOf 𝓤 H 𝓜 (tables 𝓤 H 𝓜 𝓡 code.env))
     (cited 𝓤 H (Open 𝓤 H (𝓖 .A) (𝓜 .mem) (𝓡 .run)) 𝓜 𝓡 code.env #receiver·Receiver·open open-def.routine code.calls-receiver·Receiver·open (open-thm.met 𝓤 H 𝓜 𝓖 𝓡))
-    (cited 𝓤 H (NumberOf 𝓤 H (𝓖 .A) (𝓜 .mem) (𝓡 .run)) 𝓜 𝓡 code.env #ffi·number-of number-of-def.routine code.calls-ffi·number-of (number-of-thm.met 𝓤 H 𝓜 𝓖 𝓡)))
+    (cited 𝓤 H (NumberOf 𝓤 H (𝓖 .A) (𝓜 .mem) (𝓡 .run)) 𝓜 𝓡 code.env #boundary·number-of number-of-def.routine code.calls-boundary·number-of (number-of-thm.met 𝓤 H 𝓜 𝓖 𝓡)))

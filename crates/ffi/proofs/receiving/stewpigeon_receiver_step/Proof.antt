@@ -41,7 +41,8 @@ use denote.Triple.Walked.{says, Stays, gave-ref, stay-ref, stay-none-slice, walk
 use denote.Exit.{yes}
 use Rattle.receiver.specs.declared.Receiver.{Receiver}
 use Rattle.receiver.specs.declared.Answer.{Answer}
-use Rattle.receiver.specs.Step.{answered, stepOf}
+use Rattle.receiver_spec.specs.Step.{stepOf}
+use Rattle.receiver.specs.View.{receiverOf, answered}
 use Rattle.receiver.proofs.Advancing.{mN, mL, Own}
 use Rattle.receiver.proofs.Receiver as T
 use Rattle.receiver.proofs.Answer as N
@@ -50,18 +51,18 @@ use Rattle.receiver.proofs.Receiver.step_in_place as place
 use Rattle.receiver.proofs.Receiver.step_in_place.Symbol as place-def
 use Rattle.receiver.proofs.Receiver.step_in_place.Symbol.{name as #receiver·Receiver·step-in-place}
 use Rattle.receiver.proofs.Receiver.step_in_place.Met as place-thm
-use Rattle.ffi.specs.declared.receiving.Step.{Step}
-use Rattle.ffi.specs.Receiving.{stepNumber, stepRecord}
-use Rattle.ffi.proofs.receiving.Step as D
-use Rattle.ffi.proofs.receiving.Step.Laws as D′
-use Rattle.ffi.proofs.receiving.step_of as step-of
-use Rattle.ffi.proofs.receiving.step_of.Symbol as step-of-def
-use Rattle.ffi.proofs.receiving.step_of.Symbol.{name as #ffi·receiving·step-of}
-use Rattle.ffi.proofs.receiving.step_of.Met as step-of-thm
-use Rattle.ffi.proofs.receiving.number_of_step as number-of
-use Rattle.ffi.proofs.receiving.number_of_step.Symbol as number-of-def
-use Rattle.ffi.proofs.receiving.number_of_step.Symbol.{name as #ffi·receiving·number-of-step}
-use Rattle.ffi.proofs.receiving.number_of_step.Met as number-of-thm
+use Rattle.boundary.specs.declared.Step.{Step}
+use Rattle.boundary.specs.Receiving.{stepNumber, stepRecord}
+use Rattle.boundary.proofs.Step as D
+use Rattle.boundary.proofs.Step.Laws as D′
+use Rattle.boundary.proofs.step_of as step-of
+use Rattle.boundary.proofs.step_of.Symbol as step-of-def
+use Rattle.boundary.proofs.step_of.Symbol.{name as #boundary·step-of}
+use Rattle.boundary.proofs.step_of.Met as step-of-thm
+use Rattle.boundary.proofs.number_of_step as number-of
+use Rattle.boundary.proofs.number_of_step.Symbol as number-of-def
+use Rattle.boundary.proofs.number_of_step.Symbol.{name as #boundary·number-of-step}
+use Rattle.boundary.proofs.number_of_step.Met as number-of-thm
 use Rattle.ffi.proofs.receiving.stewpigeon_receiver_step.Key.{name as #ffi·receiving·stewpigeon-receiver-step}
 use Rattle.ffi.proofs.receiving.stewpigeon_receiver_step as f
 use Rattle.ffi.proofs.receiving.stewpigeon_receiver_step.Statement as stated
@@ -81,7 +82,7 @@ spelt-D t vs is = subst (Is D.the-row t) (LL.tells D.the-type D′.the-laws t vs
 
 -- what `step_in_place` ensures, of the answer and the receiver that it leaves
 abbrev Stepped : Receiver → List ℕ → Answer → Receiver → Type 0
-Stepped h p a g = (answered a ≡ stepOf h p .answer) × (g ≡ stepOf h p .receiver)
+Stepped h p a g = (answered a ≡ stepOf (receiverOf h) p .answer) × (receiverOf g ≡ stepOf (receiverOf h) p .receiver)
 
 module _ {M : Type 1} (𝓤 : URA M) (H : Heap 𝓤) (A : Atoms 𝓤) (at-mem : Memory → SProp 𝓤) (run : Routine → Fun 𝓤) where
   -- the contracts that the proof cites
@@ -150,7 +151,7 @@ module _ {M : Type 1} (𝓤 : URA M) (H : Heap 𝓤) (A : Atoms 𝓤) (W : Given
       -- [the number's; obs; the borrow; the receiver's last value; the packet's]
       move ! (1 ∷ 2 ∷ []) $ feqI ! (List Val) (vptr b₂ o₂ ∷ []) (vptr b₂ o₂ ∷ []) refl $ fjoin3 ! $ nothing ! $ move ! (1 ∷ 0 ∷ []) $ fjoin ! $ move ! (3 ∷ 0 ∷ []) $ fjoin ! $ move ! (2 ∷ 0 ∷ []) $ fjoin ! $ done !
 
-  module _ (C : Calls 𝓤 H) (Λ : Loops 𝓤 H) (fm : FmC 𝓤 H (W .laws) C) (known-place : Triple 𝓤 (C #receiver·Receiver·step-in-place) (Place 𝓤 H A at-mem run)) (known-step : Triple 𝓤 (C #ffi·receiving·step-of) (StepOf 𝓤 H A at-mem run)) (known-number : Triple 𝓤 (C #ffi·receiving·number-of-step) (NumberOf 𝓤 H A at-mem run)) where
+  module _ (C : Calls 𝓤 H) (Λ : Loops 𝓤 H) (fm : FmC 𝓤 H (W .laws) C) (known-place : Triple 𝓤 (C #receiver·Receiver·step-in-place) (Place 𝓤 H A at-mem run)) (known-step : Triple 𝓤 (C #boundary·step-of) (StepOf 𝓤 H A at-mem run)) (known-number : Triple 𝓤 (C #boundary·number-of-step) (NumberOf 𝓤 H A at-mem run)) where
     walk : ent 𝓤 (onEntry 𝓤 H A f.signature κs qs x at) (WpFn 𝓤 H C Λ code.function (vptr b o ∷ mL s ∷ vptr b₂ o₂ ∷ []) Post)
     walk =
         qed W ((‵ (flft κ q) ⊛ (‵ (flft κ₂ q₂) ⊛ (‵ (flft κ₃ q₃) ⊛ ‵ ftrue))) ∷ ‵ (owns (MutRef (named 0) κ T.the-row ∷ ShrSlice (named 1) κ₂ u8 ∷ MutRef (named 2) κ₃ D.the-row ∷ []) x at) ∷ []) ∵
@@ -199,7 +200,7 @@ module _ {M : Type 1} (𝓤 : URA M) (H : Heap 𝓤) (A : Atoms 𝓤) (W : Given
         keep ! (0 ∷ 1 ∷ 2 ∷ 3 ∷ 4 ∷ 5 ∷ 6 ∷ []) $ by ! (exits a (ws .0) e t e₂ k e₃ w₃)))))))))))))))))))))))
 
 module _ {M : Type 1} (𝓤 : URA M) (H : Heap 𝓤) (A : Atoms 𝓤) (W : Given 𝓤 H A) (at-mem : Memory → SProp 𝓤) (run : Routine → Fun 𝓤) where
-  step-walks : (C : Calls 𝓤 H) (Λ : Loops 𝓤 H) → FmC 𝓤 H (W .laws) C → Triple 𝓤 (C #receiver·Receiver·step-in-place) (Place 𝓤 H A at-mem run) → Triple 𝓤 (C #ffi·receiving·step-of) (StepOf 𝓤 H A at-mem run) → Triple 𝓤 (C #ffi·receiving·number-of-step) (NumberOf 𝓤 H A at-mem run)
+  step-walks : (C : Calls 𝓤 H) (Λ : Loops 𝓤 H) → FmC 𝓤 H (W .laws) C → Triple 𝓤 (C #receiver·Receiver·step-in-place) (Place 𝓤 H A at-mem run) → Triple 𝓤 (C #boundary·step-of) (StepOf 𝓤 H A at-mem run) → Triple 𝓤 (C #boundary·number-of-step) (NumberOf 𝓤 H A at-mem run)
       → Walks 𝓤 H A f.ended stayed (WpFn 𝓤 H C Λ code.function) (f.clauses 𝓤 H A at-mem run)
   step-walks C Λ fm known-place known-step known-number = walked 𝓤 H A f.ended stayed (f.clauses 𝓤 H A at-mem run) (WpFn 𝓤 H C Λ code.function) (λ κs. (ptr-vals, (slice-vals, (ptr-vals, tt)))) (λ κs. (mut-tells (named 0) (κs .0) T.the-row, (shr-slice-tells (named 1) (κs .1 .0) u8, (mut-tells (named 2) (κs .1 .1 .0) D.the-row, tt))))
       (λ κs qs bounds a _ _. via 𝓤 _ (fst∗ 𝓤 _ (emp 𝓤)) (walk 𝓤 H A W at-mem run (κs .0) (κs .1 .0) (κs .1 .1 .0) (qs .0) (qs .1 .0) (qs .1 .1 .0) (a .0 .ptr .0) (a .0 .ptr .1) (a .1 .1 .0 .ptr .0) (a .1 .1 .0 .ptr .1) (a .0 .name) (a .1 .1 .0 .name) (a .0 .now) (a .1 .0) (a .1 .1 .0 .now) C Λ fm known-place known-step known-number))
@@ -207,7 +208,7 @@ module _ {M : Type 1} (𝓤 : URA M) (H : Heap 𝓤) (A : Atoms 𝓤) (W : Given
   goes : AllGo 𝓤 H A W 3 (f.signature .params) (f.ended .kept) stayed
   goes = (goes-gave-ref 𝓤 H A W 3 0 tt (plain (λ _. T.the-row)), (goes-none-slice 𝓤 H A W 3 (1 ∷ []) tt (plain (λ _. u8)) yes, (goes-ref 𝓤 H A W 3 2 tt (plain (λ _. D.the-row)), tt)))
 
-step-meets : {M : Type 1} (𝓤 : URA M) (H : Heap 𝓤) (A : Atoms 𝓤) (W : Given 𝓤 H A) (at-mem : Memory → SProp 𝓤) (run : Routine → Fun 𝓤) (𝓣 : Tables 𝓤 H) → Triple 𝓤 (𝓣 .C #receiver·Receiver·step-in-place) (Place 𝓤 H A at-mem run) → Triple 𝓤 (𝓣 .C #ffi·receiving·step-of) (StepOf 𝓤 H A at-mem run) → Triple 𝓤 (𝓣 .C #ffi·receiving·number-of-step) (NumberOf 𝓤 H A at-mem run)
+step-meets : {M : Type 1} (𝓤 : URA M) (H : Heap 𝓤) (A : Atoms 𝓤) (W : Given 𝓤 H A) (at-mem : Memory → SProp 𝓤) (run : Routine → Fun 𝓤) (𝓣 : Tables 𝓤 H) → Triple 𝓤 (𝓣 .C #receiver·Receiver·step-in-place) (Place 𝓤 H A at-mem run) → Triple 𝓤 (𝓣 .C #boundary·step-of) (StepOf 𝓤 H A at-mem run) → Triple 𝓤 (𝓣 .C #boundary·number-of-step) (NumberOf 𝓤 H A at-mem run)
     → Meets 𝓤 H A f.signature (WpFn 𝓤 H (𝓣 .C) (𝓣 .Λ) code.function) (f.spec 𝓤 H A at-mem run)
 step-meets 𝓤 H A W at-mem run 𝓣 known-place known-step known-number = walk-meets 𝓤 H A f.ended stayed W (goes 𝓤 H A W at-mem run) (f.clauses 𝓤 H A at-mem run) (WpFn 𝓤 H (𝓣 .C) (𝓣 .Λ) code.function) (WpFn-mono 𝓤 H (W .laws) 𝓣 code.function) (step-walks 𝓤 H A W at-mem run (𝓣 .C) (𝓣 .Λ) (fmOf 𝓤 H (W .laws) 𝓣) known-place known-step known-number)
 
@@ -218,5 +219,5 @@ stewpigeon-receiver-step-spec 𝓤 H 𝓜 𝓖 𝓡 =
     (tables 𝓤 H 𝓜 𝓡 code.env .C) (tables 𝓤 H 𝓜 𝓡 code.env .Λ) #ffi·receiving·stewpigeon-receiver-step code.function (code.unfolded 𝓤 H 𝓜 𝓡)
     (step-meets 𝓤 H (𝓖 .A) (givenOf 𝓤 H 𝓜 𝓖) (𝓜 .mem) (𝓡 .run) (tablesOf 𝓤 H 𝓜 (tables 𝓤 H 𝓜 𝓡 code.env))
     (cited 𝓤 H (Place 𝓤 H (𝓖 .A) (𝓜 .mem) (𝓡 .run)) 𝓜 𝓡 code.env #receiver·Receiver·step-in-place place-def.routine code.calls-receiver·Receiver·step-in-place (place-thm.met 𝓤 H 𝓜 𝓖 𝓡))
-    (cited 𝓤 H (StepOf 𝓤 H (𝓖 .A) (𝓜 .mem) (𝓡 .run)) 𝓜 𝓡 code.env #ffi·receiving·step-of step-of-def.routine code.calls-ffi·receiving·step-of (step-of-thm.met 𝓤 H 𝓜 𝓖 𝓡))
-    (cited 𝓤 H (NumberOf 𝓤 H (𝓖 .A) (𝓜 .mem) (𝓡 .run)) 𝓜 𝓡 code.env #ffi·receiving·number-of-step number-of-def.routine code.calls-ffi·receiving·number-of-step (number-of-thm.met 𝓤 H 𝓜 𝓖 𝓡)))
+    (cited 𝓤 H (StepOf 𝓤 H (𝓖 .A) (𝓜 .mem) (𝓡 .run)) 𝓜 𝓡 code.env #boundary·step-of step-of-def.routine code.calls-boundary·step-of (step-of-thm.met 𝓤 H 𝓜 𝓖 𝓡))
+    (cited 𝓤 H (NumberOf 𝓤 H (𝓖 .A) (𝓜 .mem) (𝓡 .run)) 𝓜 𝓡 code.env #boundary·number-of-step number-of-def.routine code.calls-boundary·number-of-step (number-of-thm.met 𝓤 H 𝓜 𝓖 𝓡)))

@@ -1,23 +1,8 @@
-use native.Mathlib.Omega.{arith}
 use denote.Ref.{now}
-use Rattle.records.proofs.Sound.{opened-bytes}
-use Rattle.journal.proofs.Ready.{facts}
 use Rattle.journal.proofs.Acts.{opened-ready, opened-is}
 use borrow.Author.Needs.{needs}
 use Rattle.journal.proofs.settling.open.Statement.{statement}
 use Rattle.journal.proofs.settling.open.Tie as tie
-
-cast-open : tie.Need-cast-open
-cast-open c =
-    let st = c .before in
-    let a = st .args in
-    omega (arith, opened-bytes (a .s .reader) (a .t140) (a .red) (facts (a .s) (st .pre .0) .reader) (st .pre .1) .0)
-
-cast-open-2 : tie.Need-cast-open-2
-cast-open-2 c =
-    let st = c .before in
-    let a = st .args in
-    omega (arith, opened-bytes (a .s .reader) (a .t140) (a .red) (facts (a .s) (st .pre .0) .reader) (st .pre .1) .1)
 
 open-requires : tie.Need-open-requires
 open-requires c κs = search needs
@@ -36,4 +21,4 @@ returns c =
     )
 
 pub open-spec : {M : Type 1} → statement M
-open-spec = tie.close (tie.spec cast-open cast-open-2 open-requires pass-requires returns)
+open-spec = tie.close (tie.spec open-requires pass-requires returns)

@@ -1,8 +1,9 @@
 use mathlib.Core.Path.{_∙_, refl, sym}
 use denote.Ref.{now}
-use Rattle.records.specs.declared.Part.the-variants.{Ended, Broken}
+use Rattle.parts.specs.declared.Part.the-variants.{Ended, Broken}
 use Rattle.journal.specs.Ready.{standingOf}
-use Rattle.journal.proofs.Acts.{settled-at, waits-at}
+use Rattle.parts.proofs.Sound.{goes}
+use Rattle.journal.proofs.Settled.{settled-at, waits-at}
 use borrow.Author.Needs.{needs}
 use Rattle.journal.proofs.settling.settle.Statement.{statement}
 use Rattle.journal.proofs.settling.settle.Tie as tie
@@ -74,7 +75,7 @@ returns-5 c =
     let a = c .before .before .before .before .before .before .before .args in
     let f = c .before .before .wait in
     let d = standingOf (a .s) (now (a .packet)) in
-    (f .ensures .0, f .ensures .1 ∙ sym (settled-at d (a .s .reader .part) refl ∙ waits-at (a .s .reader .part) d (c .before .before .before .before .match .keys5)))
+    (f .ensures .0, f .ensures .1 ∙ sym (settled-at d (a .s .reader .part) refl ∙ waits-at (a .s .reader .part) d (goes (a .s .reader .part) (c .before .before .before .before .match .keys5))))
 
 pub settle-spec : {M : Type 1} → statement M
 settle-spec =

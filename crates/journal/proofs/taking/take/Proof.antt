@@ -1,15 +1,11 @@
-use mathlib.Core.Path.{_∙_, sym}
+use mathlib.Core.Path.{sym}
 use native.Mathlib.Omega.{arith}
 use lib.Seq.{length-take-le}
 use denote.Ref.{now}
-use Rattle.journal.proofs.Ready.{hungry-is}
-use Rattle.journal.proofs.Uses.{takes-none, used-fits, behind-ready, behind-spare, takes}
+use Rattle.journal.proofs.Uses.{used-fits, behind-ready, behind-spare, takes}
 use borrow.Author.Needs.{needs}
 use Rattle.journal.proofs.taking.take.Statement.{statement}
 use Rattle.journal.proofs.taking.take.Tie as tie
-
-is-hungry-requires : tie.Need-is-hungry-requires
-is-hungry-requires c κs = search needs
 
 least-requires : tie.Need-least-requires
 least-requires c κs = search needs
@@ -22,23 +18,24 @@ read-requires c κs = search needs
 
 sub-left : tie.Need-sub-left
 sub-left c =
-    let st = c .before .before .before .before .before .before .before .before .before .before .before .before .before .before .before in
+    let st = c .before .before .before .before .before .before .before .before .before .before .before .before .before in
     let a = st .args in
-    let h = sym (hungry-is (a .s) (now (a .packet)) (st .pre .0) (st .pre .1)) ∙ sym (c .before .before .before .before .before .before .before .before .before .before .before .before .is-hungry .ensures) ∙ c .before .before .before .before .before .before .before .before .before .before .before .if1 .taken in
     let l = c .before .before .before .before .before .before .before .least in
     let r = c .before .before .before .before .read in
-    used-fits (a .s) (now (a .packet)) (now (a .input)) (st .pre .0) (st .pre .1) h (l .result) (l .ensures) (r .result .reader) _ (r .result .used) (r .ensures)
+    used-fits (a .s) (now (a .packet)) (now (a .input)) (st .pre .0) (st .pre .1) (st .pre .2) (l .result) (l .ensures) (r .result .reader) _ (r .result .used)
+    (r .ensures)
 
 settle-requires : tie.Need-settle-requires
 settle-requires c κs =
-    let st = c .before .before .before .before .before .before .before .before .before .before .before .before .before .before .before .before in
+    let st = c .before .before .before .before .before .before .before .before .before .before .before .before .before .before in
     let a = st .args in
-    let h = sym (hungry-is (a .s) (now (a .packet)) (st .pre .0) (st .pre .1)) ∙ sym (c .before .before .before .before .before .before .before .before .before .before .before .before .before .is-hungry .ensures) ∙ c .before .before .before .before .before .before .before .before .before .before .before .before .if1 .taken in
     let l = c .before .before .before .before .before .before .before .before .least in
     let r = c .before .before .before .before .before .read in (
-      behind-ready (a .s) (now (a .packet)) (now (a .input)) (st .pre .0) (st .pre .1) h (l .result) (l .ensures) (r .result .reader) _ (r .result .used) (r .ensures),
+      behind-ready (a .s) (now (a .packet)) (now (a .input)) (st .pre .0) (st .pre .1) (st .pre .2) (l .result) (l .ensures) (r .result .reader) _ (r .result .used)
+          (r .ensures),
       search needs,
-      behind-spare (a .s) (now (a .packet)) (now (a .input)) (st .pre .0) (st .pre .1) h (l .result) (l .ensures) (r .result .reader) _ (r .result .used) (r .ensures),
+      behind-spare (a .s) (now (a .packet)) (now (a .input)) (st .pre .0) (st .pre .1) (st .pre .2) (l .result) (l .ensures) (r .result .reader) _ (r .result .used)
+          (r .ensures),
     )
 
 same-length : tie.Need-same-length
@@ -46,30 +43,22 @@ same-length c = search needs
 
 returns : tie.Need-returns
 returns c =
-    let st = c .before .before .before .before .before .before .before .before .before .before .before .before .before .before .before .before .before .before .before in
+    let st = c .before .before .before .before .before .before .before .before .before .before .before .before .before .before .before .before .before in
     let a = st .args in
-    let h = sym (hungry-is (a .s) (now (a .packet)) (st .pre .0) (st .pre .1)) ∙ sym (c .before .before .before .before .before .before .before .before .before .before .before .before .before .before .before .before .is-hungry .ensures) ∙ c .before .before .before .before .before .before .before .before .before .before .before .before .before .before .before .if1 .taken in
     let l = c .before .before .before .before .before .before .before .before .before .before .before .least in
     let r = c .before .before .before .before .before .before .before .before .read in
     let t = c .before .before .settle in
-    takes (a .s) (now (a .packet)) (now (a .input)) (st .pre .0) (st .pre .1) h (l .result) (l .ensures) (r .result .reader) _ (r .result .used) (r .ensures) _ _ (t .ensures .0) (t .ensures .1)
-
-returns-2 : tie.Need-returns-2
-returns-2 c =
-    let st = c .before .before .before .before in
-    let a = st .args in
-    takes-none (a .s) (now (a .packet)) (now (a .input)) (st .pre .0) (sym (hungry-is (a .s) (now (a .packet)) (st .pre .0) (st .pre .1)) ∙ sym (c .before .is-hungry .ensures) ∙ c .if1 .left)
+    takes (a .s) (now (a .packet)) (now (a .input)) (st .pre .0) (st .pre .1) (st .pre .2) (l .result) (l .ensures) (r .result .reader) _ (r .result .used)
+    (r .ensures) _ _ (t .ensures .0) (t .ensures .1)
 
 pub take-spec : {M : Type 1} → statement M
 take-spec =
     tie.close
     (tie.spec
-    is-hungry-requires
     least-requires
     slice-aggregate-read
     read-requires
     sub-left
     settle-requires
     same-length
-    returns
-    returns-2)
+    returns)

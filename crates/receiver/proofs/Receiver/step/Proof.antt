@@ -42,8 +42,8 @@ use Rattle.receiver.specs.declared.Receiver.{Receiver}
 use Rattle.receiver.specs.declared.Advanced.{Advanced}
 use Rattle.receiver.specs.declared.Answer.{Answer}
 use Rattle.receiver.specs.declared.Stepped.{Stepped}
-use Rattle.receiver.specs.Step.{Step, answered, advanced, stepOf, textGiven}
-use Rattle.receiver.specs.Handed.{handed, handedOf}
+use Rattle.receiver_spec.specs.Step.{Step, stepOf, textGiven}
+use Rattle.receiver.specs.View.{receiverOf, answered, advanced, handed, handedOf}
 use Rattle.receiver.proofs.Advancing.{mT, mN, mL, part-T, part-N, Own, Advance, advance-of, to-advance, goes-advance}
 use Rattle.receiver.proofs.Receiver as T
 use Rattle.receiver.proofs.Receiver.Laws as T′
@@ -73,7 +73,7 @@ abbrev made : RefT (List ℕ) → Advanced → Stepped
 made t r = record { receiver = r .receiver; answer = r .answer; text = t }
 
 -- the contract's equation, from those of the two calls
-hands : (h : Receiver) (p : List ℕ) (r : Advanced) (t : RefT (List ℕ)) → advanced r ≡ stepOf h p → now t ≡ textGiven p (answered (r .answer)) → handed (made t r) ≡ handedOf h p
+hands : (h : Receiver) (p : List ℕ) (r : Advanced) (t : RefT (List ℕ)) → advanced r ≡ stepOf (receiverOf h) p → now t ≡ textGiven p (answered (r .answer)) → handed (made t r) ≡ handedOf (receiverOf h) p
 hands h p r t e e₂ = λ i. record { step = e i; text = (e₂ ∙ ap (λ (y : Step). textGiven p (y .answer)) e) i }
 
 module _ {M : Type 1} (𝓤 : URA M) (H : Heap 𝓤) (A : Atoms 𝓤) (at-mem : Memory → SProp 𝓤) (run : Routine → Fun 𝓤) where
@@ -103,7 +103,7 @@ module _ {M : Type 1} (𝓤 : URA M) (H : Heap 𝓤) (A : Atoms 𝓤) (W : Given
   goes-text a isN =
       qed W ((‵ (flft κ q) ⊛ ‵ ftrue) ∷ ‵ (Own κ s) ∷ []) ∵ nothing ! $ owned ! N.the-row (Is N.the-row) (EL.makes N.the-type N′.the-plain 𝓤 H A) a _ isN $ fjoin ! $ move ! (2 ∷ 0 ∷ []) $ fjoin ! $ move ! (1 ∷ 0 ∷ []) $ join ! $ frame ! $ done !
 
-  exits : (r : Advanced) (t : RefT (List ℕ)) → handed (made t r) ≡ handedOf h (now s) → Is T.the-row (r .receiver) (mT (r .receiver) ∷ []) → Is N.the-row (r .answer) (mN (r .answer) ∷ [])
+  exits : (r : Advanced) (t : RefT (List ℕ)) → handed (made t r) ≡ handedOf (receiverOf h) (now s) → Is T.the-row (r .receiver) (mT (r .receiver) ∷ []) → Is N.the-row (r .answer) (mN (r .answer) ∷ [])
       → ent 𝓤 (⋆ 𝓤 H A (‵ (Own κ t) ∷ (‵ (flft κ q) ⊛ ‵ ftrue) ∷ ‵ (Own κ s) ∷ [])) (Post (LL.val (D.the-type α) (D′.the-laws α) (made t r)))
   exits r t e isT isN =
       qed W (‵ (Own κ t) ∷ (‵ (flft κ q) ⊛ ‵ ftrue) ∷ ‵ (Own κ s) ∷ []) ∵
@@ -126,7 +126,7 @@ module _ {M : Type 1} (𝓤 : URA M) (H : Heap 𝓤) (A : Atoms 𝓤) (W : Given
         use2 W (raw (Advance 𝓤 H A at-mem run .pre (to-advance 𝓤 H A W at-mem run κ q h s))) (goes-advance 𝓤 H A W at-mem run κ q h s gh) $
         calls-at ! fm (Advance 𝓤 H A at-mem run) known-advance (to-advance 𝓤 H A W at-mem run κ q h s) (and-then ! (load ! (from ! (stop !)) (look ! 13 refl)) (and-then ! (load ! (from ! (stop !)) (look ! 11 refl)) (no-more !))) (λ w.
         use1 W (later (some (λ (r : Advanced). ((‵ (flft κ q) ⊛ ‵ ftrue) ⊛ ‵ (S.the-row .own r (w ∷ []))) ⊛ raw (ensured 𝓤 H A advance.ended (advance.clauses 𝓤 H A at-mem run) (κ, tt) (h, (s, tt)) tt r)))) (id⊢ 𝓤 _) $ await ! tt $ pick ! (λ r.
-        split ! $ move ! (1 ∷ []) $ use1 W (raw (fact 𝓤 (advanced r ≡ stepOf h (now s)))) (advance-of 𝓤 H A at-mem run κ h s r) $ heard ! (advanced r ≡ stepOf h (now s)) (λ e. split ! $ move ! (1 ∷ []) $
+        split ! $ move ! (1 ∷ []) $ use1 W (raw (fact 𝓤 (advanced r ≡ stepOf (receiverOf h) (now s)))) (advance-of 𝓤 H A at-mem run κ h s r) $ heard ! (advanced r ≡ stepOf (receiverOf h) (now s)) (λ e. split ! $ move ! (1 ∷ []) $
         -- [what r owns; the token; the packet's, twice; true; the receiver's; _5; …; _4; …; _3; …; _2; …; _1; …; room for _0; …]
         peeks ! S.the-row (Is S.the-row) (shows 𝓤 H A S.the-row) r (w ∷ []) (λ is.
         land ! (from ! (stop !)) (init ! 10 refl (LL.lawful S.the-type S′.the-laws 𝓤 H A W .typed r _ is .0)) $

@@ -40,7 +40,8 @@ use denote.Triple.Walked.{says, Stays, stay-ref, stay-none-slice, walkOf, AllGo,
 use denote.Exit.{yes}
 use Rattle.receiver.specs.declared.Receiver.{Receiver}
 use Rattle.receiver.specs.declared.Advanced.{Advanced}
-use Rattle.receiver.specs.Step.{Step, advanced, stepOf}
+use Rattle.receiver_spec.specs.Step.{Step, stepOf}
+use Rattle.receiver.specs.View.{receiverOf, advanced}
 use Rattle.receiver.proofs.Advancing.{mT, mN, mL, part-T, part-N, Own, Advance, advance-of, to-advance, goes-advance}
 use Rattle.receiver.proofs.Receiver as T
 use Rattle.receiver.proofs.Receiver.Laws as T′
@@ -70,7 +71,7 @@ module _ {M : Type 1} (𝓤 : URA M) (H : Heap 𝓤) (A : Atoms 𝓤) (W : Given
   abbrev Post : Val → SProp 𝓤
   Post = walkOf 𝓤 H A place.ended stayed (place.clauses 𝓤 H A at-mem run) .post (((κ, (κ₂, tt)), (q, (q₂, tt)), tt, x, at), tt)
 
-  exits : (r : Advanced) → advanced r ≡ stepOf h (now s) → Is N.the-row (r .answer) (mN (r .answer) ∷ [])
+  exits : (r : Advanced) → advanced r ≡ stepOf (receiverOf h) (now s) → Is N.the-row (r .answer) (mN (r .answer) ∷ [])
       → ent 𝓤 (⋆ 𝓤 H A (‵ (fobs γ (T.the-row .coded .code (r .receiver))) ∷ ‵ (fbor κ (Body (mem T.the-row) b o γ)) ∷ ‵ (flft κ q) ∷ (‵ (flft κ₂ q₂) ⊛ ‵ ftrue) ∷ ‵ (Own κ₂ s) ∷ [])) (Post (mN (r .answer)))
   exits r e isN =
       qed W (‵ (fobs γ (T.the-row .coded .code (r .receiver))) ∷ ‵ (fbor κ (Body (mem T.the-row) b o γ)) ∷ ‵ (flft κ q) ∷ (‵ (flft κ₂ q₂) ⊛ ‵ ftrue) ∷ ‵ (Own κ₂ s) ∷ []) ∵
@@ -98,7 +99,7 @@ module _ {M : Type 1} (𝓤 : URA M) (H : Heap 𝓤) (A : Atoms 𝓤) (W : Given
         move ! (18 ∷ 15 ∷ []) $ use2 W (raw (Advance 𝓤 H A at-mem run .pre (to-advance 𝓤 H A W at-mem run κ₂ q₂ h s))) (goes-advance 𝓤 H A W at-mem run κ₂ q₂ h s was) $
         calls-at ! fm (Advance 𝓤 H A at-mem run) known (to-advance 𝓤 H A W at-mem run κ₂ q₂ h s) (and-then ! (load ! (from ! (stop !)) (look ! 6 refl)) (and-then ! (load ! (from ! (stop !)) (look ! 10 refl)) (no-more !))) (λ w.
         use1 W (later (some (λ (r : Advanced). ((‵ (flft κ₂ q₂) ⊛ ‵ ftrue) ⊛ ‵ (S.the-row .own r (w ∷ []))) ⊛ raw (ensured 𝓤 H A advance.ended (advance.clauses 𝓤 H A at-mem run) (κ₂, tt) (h, (s, tt)) tt r)))) (id⊢ 𝓤 _) $ await ! tt $ pick ! (λ r.
-        split ! $ move ! (1 ∷ []) $ use1 W (raw (fact 𝓤 (advanced r ≡ stepOf h (now s)))) (advance-of 𝓤 H A at-mem run κ₂ h s r) $ heard ! (advanced r ≡ stepOf h (now s)) (λ e. split ! $ move ! (1 ∷ []) $
+        split ! $ move ! (1 ∷ []) $ use1 W (raw (fact 𝓤 (advanced r ≡ stepOf (receiverOf h) (now s)))) (advance-of 𝓤 H A at-mem run κ₂ h s r) $ heard ! (advanced r ≡ stepOf (receiverOf h) (now s)) (λ e. split ! $ move ! (1 ∷ []) $
         peeks ! S.the-row (Is S.the-row) (shows 𝓤 H A S.the-row) r (w ∷ []) (λ is.
         land ! (from ! (stop !)) (init ! 9 refl (LL.lawful S.the-type S′.the-laws 𝓤 H A W .typed r _ is .0)) $
         rewrite ! 9 (λ (u : Val). ‵ (fat fullShare S′.mir l₃ 0 u)) (ap only (LL.tells S.the-type S′.the-laws r (w ∷ []) is)) refl $

@@ -8,8 +8,9 @@ use mir.Facts.{toZ-ofZ}
 use borrow.Author.Needs.{needs}
 use Rattle.delivery.specs.Numbers.{late, forward, courseOf, distance}
 use Rattle.delivery.specs.Record.{loss, wanted}
-use Rattle.receiver.specs.Distance.{signed}
-use Rattle.receiver.specs.Step.{isLate}
+use Rattle.receiver_spec.specs.Distance.{signed}
+use Rattle.receiver_spec.specs.Step.{isLate}
+use Rattle.receiver.specs.View.{receiverOf}
 use Rattle.receiver.specs.Accepted.{followed}
 use Rattle.receiver.proofs.Sign.{negative-late, other-forward}
 use Rattle.receiver.proofs.accepting.accept_later.Statement.{statement}
@@ -35,7 +36,7 @@ returns c =
     let d = distance (a .packet .sequence) (a .receiver .expected) in
     let z : toZ w16 (ofZ w16 (c .before .signed .result)) ≡ signed d = signed-is (c .before) in
     let v : courseOf d ≡ late = negative-late d (sym (ap (λ (x : ℤ). ltZ x (pos 0)) z) ∙ c .if1 .taken) in
-    rw v (ap (λ (x : ℤ). record { receiver = a .receiver; answer = isLate x }) z)
+    rw v (ap (λ (x : ℤ). record { receiver = receiverOf (a .receiver); answer = isLate x }) z)
 
 loss-of-requires : tie.Need-loss-of-requires
 loss-of-requires c κs = search needs
@@ -59,9 +60,9 @@ returns-2 c =
     let w : c .before .wanted-of .result ≡ wanted d n = c .before .wanted-of .ensures ∙ ap (λ (k : ℕ). wanted k n) e in
     rw v
     (c .follow .ensures
-    ∙ ap (λ (k : ℕ). followed (a .receiver) (a .packet) k (toZ w16 (ofZ w16 (q .signed .result))) (c .before .wanted-of .result)) l
-    ∙ ap (λ (x : ℤ). followed (a .receiver) (a .packet) (loss d n) x (c .before .wanted-of .result)) z
-    ∙ ap (followed (a .receiver) (a .packet) (loss d n) (signed d)) w)
+    ∙ ap (λ (k : ℕ). followed (receiverOf (a .receiver)) (a .packet) k (toZ w16 (ofZ w16 (q .signed .result))) (c .before .wanted-of .result)) l
+    ∙ ap (λ (x : ℤ). followed (receiverOf (a .receiver)) (a .packet) (loss d n) x (c .before .wanted-of .result)) z
+    ∙ ap (followed (receiverOf (a .receiver)) (a .packet) (loss d n) (signed d)) w)
 
 pub accept-later-spec : {M : Type 1} → statement M
 accept-later-spec =

@@ -1,11 +1,8 @@
 use Prim.Native.Nat.{ℕ, _+_, _*_}
-use mathlib.Core.Path.{_≡_, _∙_, ap, sym}
-use native.Mathlib.Omega.{arith}
+use mathlib.Core.Path.{_≡_, _∙_, ap}
 use borrow.Author.Needs.{needs}
 use denote.Ref.{now}
 use lib.ListN.{length, getD}
-use lib.Seq.{length-take-le}
-use Rattle.records.proofs.Sound.{whole-is}
 use Rattle.records.proofs.Gathering.{turn-long, turn-packet}
 use Rattle.records.proofs.steps.begin_packet.Statement.{statement}
 use Rattle.records.proofs.steps.begin_packet.Tie as tie
@@ -51,50 +48,25 @@ part-gather-end c = search needs
 gather-requires : tie.Need-gather-requires
 gather-requires c κs = search needs
 
-slice-reshare-prefix-piece-end : tie.Need-slice-reshare-prefix-piece-end
-slice-reshare-prefix-piece-end c =
-    let st = c .before .before .before .before .before .before .before .before .before .before .before .before in
-    let a = st .args in
-    let g = c .before .before .gather in
-    let q = g .last .1 .1 .1 .0 in
-    let w = whole-is (g .result .at) (g .ensures .whole) in
-    let same : length q ≡ length (now (a .packet)) = search needs in
-    omega arith
-
-slice-aggregate-piece-end : tie.Need-slice-aggregate-piece-end
-slice-aggregate-piece-end c =
-    let st = c .before .before .before .before .before .before .before .before .before .before .before .before .before in
-    let a = st .args in
-    let g = c .before .before .before .gather in
-    let q = g .last .1 .1 .1 .0 in
-    let w = whole-is (g .result .at) (g .ensures .whole) in
-    let same : length q ≡ length (now (a .packet)) = search needs in
-    sym (length-take-le _ _ (omega arith))
-
-piece-end-requires : tie.Need-piece-end-requires
-piece-end-requires c κs = search needs
-
-add-t13 : tie.Need-add-t13
-add-t13 c = search needs
+add-t12 : tie.Need-add-t12
+add-t12 c = search needs
 
 same-length : tie.Need-same-length
 same-length c = search needs
 
 returns-2 : tie.Need-returns-2
 returns-2 c =
-    let st = c .before .before .before .before .before .before .before .before .before .before .before .before .before .before .before in
+    let st = c .before .before .before .before .before .before .before .before .before .before .before .before .before in
     let a = st .args in
-    let hi = c .before .before .before .before .before .before .before .before .before .before .before .wide in
-    let lo = c .before .before .before .before .before .before .before .before .before .wide2 in
+    let hi = c .before .before .before .before .before .before .before .before .before .wide in
+    let lo = c .before .before .before .before .before .before .before .wide2 in
     let n = hi .result * 256 + lo .result in
     let e = ap (λ (x : ℕ). x * 256 + lo .result) (hi .ensures .0) ∙ ap (λ (x : ℕ). getD (now (a .input)) 1 0 * 256 + x) (lo .ensures .0) in
-    let g = c .before .before .before .before .before .gather in
+    let g = c .before .before .before .gather in
     let q = g .last .1 .1 .1 .0 in
-    let w = whole-is (g .result .at) (g .ensures .whole) in
     let same : length q ≡ length (now (a .packet)) = search needs in
     turn-packet (a .r) (now (a .packet)) (now (a .input)) (st .pre .0) (st .pre .1) (st .pre .2) (st .pre .3) (st .pre .4)
-    (st .pre .5) (st .pre .6) n e (c .before .before .before .before .before .before .before .before .if1 .left) (g .result .at) q
-    (g .result .used) (g .ensures) same (c .before .piece-end .result) (c .before .piece-end .ensures)
+    (st .pre .5) (st .pre .6) n e (c .before .before .before .before .before .before .if1 .left) (g .result .part) (g .result .at) q (g .result .used) (g .ensures) same
 
 pub begin-packet-spec : {M : Type 1} → statement M
 begin-packet-spec =
@@ -111,9 +83,6 @@ begin-packet-spec =
     part-gather-start
     part-gather-end
     gather-requires
-    slice-reshare-prefix-piece-end
-    slice-aggregate-piece-end
-    piece-end-requires
-    add-t13
+    add-t12
     same-length
     returns-2)

@@ -4,6 +4,7 @@ use native.Mathlib.Omega.{arith}
 use borrow.Author.Needs.{needs}
 use denote.Ref.{now}
 use lib.ListN.{length, length-take, length-drop}
+use Rattle.journal_spec.specs.Contents.{longestPacket}
 use Rattle.records.specs.Turns.{Went}
 use Rattle.records.proofs.Runs.{gone, went-on, at-end, turn-last}
 use Rattle.records.proofs.steps.run.Statement.{statement}
@@ -11,7 +12,7 @@ use Rattle.records.proofs.steps.run.Tie as tie
 
 abbrev Inv-loop : tie.InvT-loop
 Inv-loop input packet₀ now-at₀ i₀ packet now-at i =
-    Went now-at₀ packet₀ input now-at packet i × (length packet ≡ length packet₀) × (1488 ≤ length packet)
+    Went now-at₀ packet₀ input now-at packet i × (length packet ≡ length packet₀) × (longestPacket ≤ length packet)
 
 abbrev μ-loop : tie.MeasureT-loop
 μ-loop input packet₀ now-at₀ i₀ packet now-at i = length input - i

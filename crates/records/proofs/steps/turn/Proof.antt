@@ -1,10 +1,10 @@
 use Prim.Native.Nat.{ℕ, _+_, _*_}
-use mathlib.Core.Path.{ap}
-use native.Mathlib.Omega.{arith}
+use mathlib.Core.Path.{_∙_, ap}
 use borrow.Author.Needs.{needs}
 use denote.Ref.{now}
-use Rattle.records.proofs.Sound.{stopped}
-use Rattle.records.proofs.Turns.{piece-fits, red-byte, low-byte, turn-length, turn-types, turn-red, turn-low, turn-none}
+use lib.ListN.{getD}
+use Rattle.parts.proofs.Sound.{stopped}
+use Rattle.records.proofs.Turns.{piece-fits, turn-length, turn-types, turn-red, turn-low, turn-none}
 use Rattle.records.proofs.steps.turn.Statement.{statement}
 use Rattle.records.proofs.steps.turn.Tie as tie
 
@@ -34,36 +34,26 @@ at-kind-requires c κs = search needs
 enum-told-2 : tie.Need-enum-told-2
 enum-told-2 c = search needs
 
-shared-slice-read-wide : tie.Need-shared-slice-read-wide
-shared-slice-read-wide c = search needs
-
-wide-requires : tie.Need-wide-requires
-wide-requires c κs = search needs
+shared-slice-read-v : tie.Need-shared-slice-read-v
+shared-slice-read-v c = search needs
 
 enum-known-part-3 : tie.Need-enum-known-part-3
 enum-known-part-3 c = search needs
 
-shared-slice-read-wide-2 : tie.Need-shared-slice-read-wide-2
-shared-slice-read-wide-2 c = search needs
+wide-requires : tie.Need-wide-requires
+wide-requires c κs = search needs
+
+shared-slice-read-wide : tie.Need-shared-slice-read-wide
+shared-slice-read-wide c = search needs
 
 wide-requires-2 : tie.Need-wide-requires-2
 wide-requires-2 c κs = search needs
 
 mul-begun : tie.Need-mul-begun
-mul-begun c =
-    let st = c .before .before .before .before .before .before .before in
-    let a = st .args in
-    let g = c .before .before .before .part3 .given in
-    let b = low-byte (a .r) (now (a .packet)) (now (a .input)) (st .pre .0) (st .pre .1) (st .pre .2) (g .0 .0) (g .1) in
-    omega arith
+mul-begun c = search needs
 
 add-begun : tie.Need-add-begun
-add-begun c =
-    let st = c .before .before .before .before .before .before .before in
-    let a = st .args in
-    let g = c .before .before .before .part3 .given in
-    let b = low-byte (a .r) (now (a .packet)) (now (a .input)) (st .pre .0) (st .pre .1) (st .pre .2) (g .0 .0) (g .1) in
-    omega (arith, c .wide2 .ensures .1)
+add-begun c = search needs
 
 begun-requires : tie.Need-begun-requires
 begun-requires c κs = search needs
@@ -71,27 +61,17 @@ begun-requires c κs = search needs
 enum-told-3 : tie.Need-enum-told-3
 enum-told-3 c = search needs
 
-shared-slice-read-wide-3 : tie.Need-shared-slice-read-wide-3
-shared-slice-read-wide-3 c = search needs
-
-wide-requires-3 : tie.Need-wide-requires-3
-wide-requires-3 c κs = search needs
+shared-slice-read-v-2 : tie.Need-shared-slice-read-v-2
+shared-slice-read-v-2 c = search needs
 
 enum-known-part-4 : tie.Need-enum-known-part-4
 enum-known-part-4 c = search needs
 
-shared-slice-read-wide-4 : tie.Need-shared-slice-read-wide-4
-shared-slice-read-wide-4 c = search needs
-
-wide-requires-4 : tie.Need-wide-requires-4
-wide-requires-4 c κs = search needs
+shared-slice-read-opening : tie.Need-shared-slice-read-opening
+shared-slice-read-opening c = search needs
 
 opening-requires : tie.Need-opening-requires
-opening-requires c κs =
-    let st = c .before .before .before .before .before .before .before in
-    let a = st .args in
-    let g = c .before .before .before .part4 .given in
-    (red-byte (a .r) (now (a .packet)) (now (a .input)) (st .pre .0) (st .pre .1) (st .pre .2) (g .0 .0) (g .1), c .wide4 .ensures .1)
+opening-requires c κs = search needs
 
 same-length : tie.Need-same-length
 same-length c = search needs
@@ -113,34 +93,29 @@ returns-3 c = search needs
 
 returns-4 : tie.Need-returns-4
 returns-4 c =
-    let st = c .before .before .before .before .before .before in
+    let st = c .before .before .before .before .before in
     let a = st .args in
-    turn-length (a .r) (now (a .packet)) (now (a .input)) (st .pre .0) (st .pre .1) (st .pre .2) (c .wide .result)
-    (c .wide .ensures .0) (c .wide .ensures .1) (c .before .before .enum-told2 .given .1)
+    turn-length (a .r) (now (a .packet)) (now (a .input)) (st .pre .0) (st .pre .1) (st .pre .2) (c .before .enum-told2 .given .1)
 
 returns-5 : tie.Need-returns-5
 returns-5 c =
-    let st = c .before .before .before .before .before .before .before .before in
+    let st = c .before .before .before .before .before .before .before .before .before in
     let a = st .args in
-    let g = c .before .before .before .before .part3 .given in
-    turn-low (a .r) (now (a .packet)) (now (a .input)) (st .pre .0) (st .pre .1) (st .pre .2) (g .0 .0) _ (g .1) (ap
-    (λ (x : ℕ). g .0 .0 * 256 + x) (c .before .wide2 .ensures .0)) (c .begun .result) (c .begun .ensures)
+    turn-low (a .r) (now (a .packet)) (now (a .input)) (st .pre .0) (st .pre .1) (st .pre .2) (c .before .before .before .before .before .part3 .given .0 .0) _ (c .before .before .before .before .before .part3 .given .1)
+    (ap (λ (x : ℕ). x * 256 + c .before .wide2 .result) (c .before .before .before .wide .ensures .0) ∙ ap (λ (x : ℕ). c .before .before .before .before .before .part3 .given .0 .0 * 256 + x) (c .before .wide2 .ensures .0))
+    (c .begun .result) (c .begun .ensures)
 
 returns-6 : tie.Need-returns-6
 returns-6 c =
-    let st = c .before .before .before .before .before .before in
+    let st = c .before .before .before .before .before in
     let a = st .args in
-    turn-types (a .r) (now (a .packet)) (now (a .input)) (st .pre .0) (st .pre .1) (st .pre .2) (c .wide3 .result)
-    (c .wide3 .ensures .0) (c .wide3 .ensures .1) (c .before .before .enum-told3 .given .1)
+    turn-types (a .r) (now (a .packet)) (now (a .input)) (st .pre .0) (st .pre .1) (st .pre .2) (c .before .enum-told3 .given .1)
 
 returns-7 : tie.Need-returns-7
 returns-7 c =
-    let st = c .before .before .before .before .before .before .before .before in
+    let st = c .before .before .before .before .before .before .before in
     let a = st .args in
-    let g = c .before .before .before .before .part4 .given in
-    let v = c .before .wide4 in
-    turn-red (a .r) (now (a .packet)) (now (a .input)) (st .pre .0) (st .pre .1) (st .pre .2) (v .result) (v .ensures .0)
-    (v .ensures .1) (g .0 .0) (g .1) (c .opening .result) (c .opening .ensures)
+    turn-red (a .r) (now (a .packet)) (now (a .input)) (st .pre .0) (st .pre .1) (st .pre .2) (c .before .before .before .part4 .given .0 .0) (c .before .before .before .part4 .given .1) (c .opening .result) (c .opening .ensures)
 
 returns-8 : tie.Need-returns-8
 returns-8 c =
@@ -159,20 +134,18 @@ turn-spec =
     enum-told
     at-kind-requires
     enum-told-2
-    shared-slice-read-wide
-    wide-requires
+    shared-slice-read-v
     enum-known-part-3
-    shared-slice-read-wide-2
+    wide-requires
+    shared-slice-read-wide
     wide-requires-2
     mul-begun
     add-begun
     begun-requires
     enum-told-3
-    shared-slice-read-wide-3
-    wide-requires-3
+    shared-slice-read-v-2
     enum-known-part-4
-    shared-slice-read-wide-4
-    wide-requires-4
+    shared-slice-read-opening
     opening-requires
     same-length
     returns

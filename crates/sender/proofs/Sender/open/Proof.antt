@@ -1,9 +1,18 @@
-use mathlib.Core.Path.{_∙_, ap, sym}
+use Prim.Native.Nat.{ℕ}
+use mathlib.Core.Path.{_≡_, _∙_, ap, sym, refl}
+use mathlib.Core.List.{List}
+use native.Mathlib.Omega.{arith}
 use borrow.Author.Needs.{needs}
+use Rattle.settings.specs.declared.Settings.{Settings}
 use Rattle.sender.specs.declared.Sender.{Sender}
+use Rattle.packet.specs.declared.Outcome.{Outcome}
 use Rattle.packet.specs.Refusal.{outcomeNumber}
 use Rattle.packet.proofs.Names.{number-positive}
-use Rattle.sender.proofs.Calls.{open-accepted, open-refused}
+use Rattle.delivery.specs.Numbers.{wrapped}
+use Rattle.sender_spec.proofs.Calls.{open-accepted, open-refused}
+use Rattle.settings.specs.State.{settingsOf}
+use Rattle.sender.specs.State.{stateOf}
+use Rattle.sender.specs.Opening.{freshOf, openedBy}
 use Rattle.sender.proofs.Sender.open.Statement.{statement}
 use Rattle.sender.proofs.Sender.open.Tie as tie
 
@@ -26,16 +35,37 @@ returns : tie.Need-returns
 returns c =
     let s = c .before .before .before .before .args .settings in
     let r = c .before .before .before .settings-outcome in
-    ap (λ (x : Sender). record { number = outcomeNumber (r .result); sender = x }) (c .fresh .ensures)
-    ∙ sym (open-accepted s (outcomeNumber (r .result)) (r .ensures) (ap outcomeNumber (c .before .enum-told .given .1)))
+    let e = c .before .enum-told .given .1 in
+    let first : s .sequence ≡ wrapped (s .sequence) = omega arith in
+    record {
+      result = λ texts.
+          ap (λ (x : Sender). record { number = outcomeNumber (r .result); sender = stateOf x texts }) (c .fresh .ensures)
+          ∙ ap (λ (n : ℕ). record {
+            number = outcomeNumber (r .result);
+            sender = record {
+              settings = settingsOf s;
+              clock = 0;
+              waiting = stateOf (freshOf s) texts .waiting;
+              since = 0;
+              kept = stateOf (freshOf s) texts .kept;
+              progress = record { sent = stateOf (freshOf s) texts .progress .sent; last = 0; lastText = 0; next = n };
+            };
+          }) first
+          ∙ sym (open-accepted (settingsOf s) (outcomeNumber (r .result)) (r .ensures) (ap outcomeNumber e));
+      fields = c .fresh .ensures ∙ ap (λ (o : Outcome). openedBy o s) (sym e);
+    }
 
 returns-2 : tie.Need-returns-2
 returns-2 c =
     let s = c .before .before .before .before .args .settings in
     let r = c .before .before .before .settings-outcome in
     let e = c .before .enum-told2 .given in
-    ap (λ (x : Sender). record { number = outcomeNumber (r .result); sender = x }) (c .zeros .ensures)
-    ∙ sym (open-refused s (outcomeNumber (r .result)) (r .ensures) (rw (ap outcomeNumber (e .1)) (number-positive (e .0 .0))))
+    record {
+      result = λ texts.
+          ap (λ (x : Sender). record { number = outcomeNumber (r .result); sender = stateOf x texts }) (c .zeros .ensures)
+          ∙ sym (open-refused (settingsOf s) (outcomeNumber (r .result)) (r .ensures) (rw (ap outcomeNumber (e .1)) (number-positive (e .0 .0))));
+      fields = c .zeros .ensures ∙ ap (λ (o : Outcome). openedBy o s) (sym (e .1));
+    }
 
 pub open-spec : {M : Type 1} → statement M
 open-spec =

@@ -1,10 +1,10 @@
 //! Named cases of the sender.
 
+use super::super::held::Held;
 use super::super::senders::{Pair, Space};
 use super::{same, Case, Given};
 use independent::read;
 use independent::sender::Settings;
-use stewpigeon::lent;
 
 pub const CASES: [Case; 9] = [
     ("T11: R 2, time 300, first sequence 65,535", t11),
@@ -146,7 +146,7 @@ fn zero_sender(given: &mut Given<'_>) -> Result<(), String> {
                 same(offer(given, &mut zero, at, text)?, 2)?;
             }
             same(clock(given, &mut zero, at)?, Err(2))?;
-            same(zero.record(), lent::Sender::ZERO)?;
+            same(zero.held(), Held::ZERO)?;
         }
     }
     Ok(())

@@ -1,0 +1,14 @@
+pub mod Cases
+pub mod Tests
+pub mod InOrder
+pub mod Slices
+pub mod Fronts
+pub mod PartOf
+pub mod Stores
+pub mod Filled
+pub mod Maps
+pub mod Every
+pub mod Lent
+pub mod Pasted
+pub mod Written
+pub mod Records

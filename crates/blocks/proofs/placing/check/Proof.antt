@@ -1,0 +1,209 @@
+use Prim.Native.Nat.{ℕ, _+_, _-_, _≤_, _<_}
+use mathlib.Core.Path.{_≡_, _∙_, ap, sym}
+use mathlib.Core.List.{List, map}
+use mathlib.Core.Bool.{Bool, true, false}
+use mathlib.Core.Logic.{⊎-elim}
+use native.Mathlib.Omega.{arith}
+use lib.ListN.{length, drop, length-map}
+use lib.Seq.{slice, slice-empty}
+use borrow.Author.Needs.{needs}
+use borrow.Author.Tests.{lt-ltb, le-ltb}
+use denote.Ref.{now}
+use Rattle.packet.specs.declared.Outcome.the-variants.{Accepted}
+use Rattle.packet_spec.specs.Limits.{level}
+use Rattle.text_spec.specs.Utf8.{Range, isText}
+use Rattle.text.specs.Owed.{owes, walked}
+use Rattle.packet_spec.specs.Redundancy.{Head, total, areText}
+use Rattle.blocks.specs.Headers.{seenHead, seenHeads, noHead}
+use Rattle.base.proofs.Maps.{getD-map}
+use Rattle.text_spec.proofs.Walks.{goesOn, part-on, part-stops}
+use Rattle.text.proofs.Owes.{owes-none, owes-some}
+use Rattle.blocks.proofs.Parts.{Here, behind, older-here, primary-here}
+use Rattle.blocks.proofs.placing.check.Statement.{statement}
+use Rattle.blocks.proofs.placing.check.Tie as tie
+
+abbrev Inv-loop : tie.InvT-loop
+Inv-loop packet first count end heads outcome₀ at k to owed₀ i₀ outcome owed i =
+    (i ≤ to) × (outcome ≡ Accepted) × Here packet (map seenHead heads) count end k at to
+    × (isText (slice at to packet) ≡ goesOn (owes owed) (slice i to packet))
+
+abbrev μ-loop : tie.MeasureT-loop
+μ-loop packet first count end heads outcome₀ at k to owed₀ i₀ outcome owed i = to - i
+
+abbrev Inv-blocks2 : tie.InvT-blocks2
+Inv-blocks2 packet first count end heads outcome₀ at₀ k₀ outcome at k =
+    (k ≤ count) × (outcome ≡ Accepted) × (at + total (drop k (seenHeads count heads)) ≤ end)
+    × (areText (seenHeads count heads) (slice first end packet) ≡ areText (drop k (seenHeads count heads)) (slice at end packet))
+
+abbrev μ-blocks2 : tie.MeasureT-blocks2
+μ-blocks2 packet first count end heads outcome₀ at₀ k₀ outcome at k = count - k
+
+four : (c : tie.Start Inv-loop μ-loop Inv-blocks2 μ-blocks2) → length (map seenHead (c .args .t4)) ≡ level
+four c = omega (arith, length-map (c .args .t4) seenHead)
+
+-- whether all blocks are text, and whether the block at hand is
+all-text : tie.At-loop Inv-loop μ-loop Inv-blocks2 μ-blocks2 → Bool
+all-text c = let a = c .before .before .before .before .before .args in areText (seenHeads (a .count) (a .t4)) (slice (a .first) (a .end) (now (a .packet)))
+
+text-here : tie.At-loop Inv-loop μ-loop Inv-blocks2 μ-blocks2 → Bool
+text-here c = isText (slice (c .before .before .before .blocks2 .at) (c .before .before .if1 .to) (now (c .before .before .before .before .before .args .packet)))
+
+bad-here : (c : tie.At-loop Inv-loop μ-loop Inv-blocks2 μ-blocks2) → text-here c ≡ false → all-text c ≡ false
+unfolding all-text text-here
+bad-here c e = c .before .before .before .blocks2 .inv .3 ∙ c .loop .inv .2 .text ∙ rw e
+
+good-here : (c : tie.At-loop Inv-loop μ-loop Inv-blocks2 μ-blocks2) → text-here c ≡ true
+    → all-text c ≡ behind (now (c .before .before .before .before .before .args .packet)) (map seenHead (c .before .before .before .before .before .args .t4)) (c .before .before .before .before .before .args .count) (c .before .before .before .before .before .args .end) (c .before .before .before .blocks2 .k) (c .before .before .if1 .to)
+unfolding all-text text-here
+good-here c e = c .before .before .before .blocks2 .inv .3 ∙ c .loop .inv .2 .text ∙ rw e
+
+-- at a block's end nothing is owed exactly where the block is text
+owed-none : (c : tie.After-loop Inv-loop μ-loop Inv-blocks2 μ-blocks2) → c .before .loop .owed .tails ≡ 0 → text-here (c .before) ≡ true
+unfolding text-here
+owed-none c h =
+    let to = c .before .before .before .if1 .to in
+    let e : c .before .loop .i ≡ to = omega arith in
+    c .before .loop .inv .3 ∙ rw (e, slice-empty to (now (c .before .before .before .before .before .before .args .packet)), owes-none (c .before .loop .owed) h)
+
+owed-some : (c : tie.After-loop Inv-loop μ-loop Inv-blocks2 μ-blocks2) → (c .before .loop .owed .tails ≡ 0 → ⊥) → text-here (c .before) ≡ false
+unfolding text-here
+owed-some c h =
+    let to = c .before .before .before .if1 .to in
+    let e : c .before .loop .i ≡ to = omega arith in
+    c .before .loop .inv .3 ∙ rw (e, slice-empty to (now (c .before .before .before .before .before .before .args .packet)), owes-some (c .before .loop .owed) h)
+
+ne-lt : (k n : ℕ) → k ≤ n → (k ≡ n → ⊥) → k < n
+ne-lt k n h f = omega arith
+
+blocks2-holds : tie.Need-blocks2-holds Inv-loop μ-loop Inv-blocks2 μ-blocks2
+blocks2-holds c = search needs
+
+mul-head : tie.Need-mul-head Inv-loop μ-loop Inv-blocks2 μ-blocks2
+mul-head c = search needs
+
+array-copy-out-head : tie.Need-array-copy-out-head Inv-loop μ-loop Inv-blocks2 μ-blocks2
+array-copy-out-head c = search needs
+
+cast-to : tie.Need-cast-to Inv-loop μ-loop Inv-blocks2 μ-blocks2
+cast-to c = search needs
+
+add-to : tie.Need-add-to Inv-loop μ-loop Inv-blocks2 μ-blocks2
+add-to c = search needs
+
+fresh-requires : tie.Need-fresh-requires Inv-loop μ-loop Inv-blocks2 μ-blocks2
+fresh-requires c κs = search needs
+
+loop-holds : tie.Need-loop-holds Inv-loop μ-loop Inv-blocks2 μ-blocks2
+loop-holds c =
+    let a = c .before .before .before .before .args in
+    let l = c .before .before .blocks2 in
+    let to = c .before .if1 .to in
+    let all = map seenHead (a .t4) in
+    let n : length all ≡ level = four (c .before .before .before .before) in
+    let h : Here (now (a .packet)) all (a .count) (a .end) (l .k) (l .at) to =
+    ⊎-elim
+    (λ w. older-here (now (a .packet)) all (a .count) (a .end) (l .k) (l .at) to (omega arith) (l .inv .2) (w .0 .taken) (w .3 ∙ ap (λ (h : Head). l .at + h .len) (sym (getD-map seenHead (a .t4) (l .k) noHead))))
+    (λ w. primary-here (now (a .packet)) all (a .count) (a .end) (l .k) (l .at) to (omega arith) (l .inv .2) (l .inv .0) (w .0 .left) (w .1))
+    (c .before .if1 .came) in (
+      h .ahead,
+      l .inv .1,
+      h,
+      ap (λ (o : List Range). goesOn o (slice (l .at) to (now (a .packet)))) (sym (c .fresh .ensures)),
+    )
+
+shared-slice-read-step : tie.Need-shared-slice-read-step Inv-loop μ-loop Inv-blocks2 μ-blocks2
+shared-slice-read-step c = search needs
+
+step-requires : tie.Need-step-requires Inv-loop μ-loop Inv-blocks2 μ-blocks2
+step-requires c κs = search needs
+
+enum-known-next : tie.Need-enum-known-next Inv-loop μ-loop Inv-blocks2 μ-blocks2
+enum-known-next c = search needs
+
+enum-told : tie.Need-enum-told Inv-loop μ-loop Inv-blocks2 μ-blocks2
+enum-told c = search needs
+
+add-i : tie.Need-add-i Inv-loop μ-loop Inv-blocks2 μ-blocks2
+add-i c = search needs
+
+loop-less : tie.Need-loop-less Inv-loop μ-loop Inv-blocks2 μ-blocks2
+loop-less c = search needs
+
+loop-again : tie.Need-loop-again Inv-loop μ-loop Inv-blocks2 μ-blocks2
+loop-again c =
+    let l = c .before .before .before .before .before .before .loop in
+    let to = c .before .before .before .before .before .before .before .before .if1 .to in
+    let p = now (c .before .before .before .before .before .before .before .before .before .before .before .args .packet) in (
+      search needs,
+      l .inv .1,
+      l .inv .2,
+      l .inv .3
+          ∙ part-on (owes (l .owed)) p (l .i) to (c .before .before .before .before .before .loop-test .taken) (search needs) (sym (c .before .before .before .step .ensures) ∙ ap walked (c .before .next .given .1)),
+    )
+
+add-k : tie.Need-add-k Inv-loop μ-loop Inv-blocks2 μ-blocks2
+add-k c = search needs
+
+blocks2-less : tie.Need-blocks2-less Inv-loop μ-loop Inv-blocks2 μ-blocks2
+blocks2-less c = search needs
+
+blocks2-again : tie.Need-blocks2-again Inv-loop μ-loop Inv-blocks2 μ-blocks2
+unfolding all-text
+blocks2-again c =
+    let l = c .before .before .before .before .before .before .blocks2 in
+    let a = c .before .before .before .before .before .before .before .before .args in
+    let n : l .k < a .count = ne-lt (l .k) (a .count) (l .inv .0) (c .if3 .left) in (
+      omega arith,
+      c .before .before .before .loop .inv .1,
+      c .before .before .before .loop .inv .2 .room n,
+      good-here (c .before .before .before) (owed-none (c .before .before) (c .before .if2 .left)) ∙ rw (lt-ltb (l .k) (a .count) n),
+    )
+
+returns : tie.Need-returns Inv-loop μ-loop Inv-blocks2 μ-blocks2
+unfolding all-text text-here
+returns c =
+    let l = c .before .before .before .before .before .loop in
+    let e : text-here (c .before .before .before .before .before) ≡ false =
+    l .inv .3
+    ∙ part-stops (owes (l .owed)) (now (c .before .before .before .before .before .before .before .before .before .before .args .packet)) (l .i) (c .before .before .before .before .before .before .before .if1 .to) (c .before .before .before .before .loop-test .taken) (search needs)
+    (sym (c .before .before .step .ensures) ∙ ap walked (c .enum-told .given .1)) in
+    rw (bad-here (c .before .before .before .before .before) e)
+
+returns-2 : tie.Need-returns-2 Inv-loop μ-loop Inv-blocks2 μ-blocks2
+unfolding all-text
+returns-2 c = rw (bad-here (c .before .before) (owed-some (c .before) (c .if2 .taken)))
+
+returns-3 : tie.Need-returns-3 Inv-loop μ-loop Inv-blocks2 μ-blocks2
+unfolding all-text
+returns-3 c =
+    let l = c .before .before .before .before .before .before .blocks2 in
+    rw (good-here (c .before .before .before) (owed-none (c .before .before) (c .before .if2 .left)), le-ltb (l .k) (c .before .before .before .before .before .before .before .before .args .count) (omega arith)) (c .before .before .before .loop .inv .1)
+
+pub check-spec : {M : Type 1} → statement M
+check-spec =
+    tie.close
+    (tie.spec
+    Inv-loop
+    μ-loop
+    Inv-blocks2
+    μ-blocks2
+    blocks2-holds
+    mul-head
+    array-copy-out-head
+    cast-to
+    add-to
+    fresh-requires
+    loop-holds
+    shared-slice-read-step
+    step-requires
+    enum-known-next
+    enum-told
+    add-i
+    loop-less
+    loop-again
+    add-k
+    blocks2-less
+    blocks2-again
+    returns
+    returns-2
+    returns-3)

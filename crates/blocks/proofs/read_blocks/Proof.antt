@@ -1,0 +1,95 @@
+use Prim.Native.Nat.{ℕ, _+_, _-_}
+use mathlib.Core.Path.{_≡_, _∙_, ap, sym}
+use mathlib.Core.Bool.{true}
+use mathlib.Core.List.{map}
+use native.Mathlib.Omega.{arith}
+use lib.ListN.{length, length-map}
+use lib.Seq.{slice, length-slice, length-take-le}
+use borrow.Author.Needs.{needs}
+use denote.Ref.{now}
+use Rattle.packet.specs.declared.Refusal.{Refusal}
+use Rattle.blocks.specs.declared.Blocks.{Blocks}
+use Rattle.packet.specs.Refusal.{number}
+use Rattle.packet_spec.specs.Redundancy.{total, areText}
+use Rattle.blocks.specs.Headers.{seenHead, seenHeads}
+use Rattle.base.specs.Arrays.{filled}
+use Rattle.packet_spec.specs.Limits.{level}
+use Rattle.packet.specs.Places.{none}
+use Rattle.blocks.specs.Placing.{headPlaces}
+use Rattle.blocks.specs.Seen.{seen, refusedBlocks, placedBlocks}
+use Rattle.packet_spec.proofs.Order.{gives-20, gives-21}
+use Rattle.blocks.proofs.Outcomes.{bad-text, good-text}
+use Rattle.blocks.proofs.Whole.{text-placed}
+use Rattle.blocks.proofs.read_blocks.Statement.{statement}
+use Rattle.blocks.proofs.read_blocks.Tie as tie
+
+four : (c : tie.Start) → length (c .args .heads) ≡ level
+four c = omega arith
+
+place-requires : tie.Need-place-requires
+place-requires c κs = search needs
+
+refused-requires : tie.Need-refused-requires
+refused-requires c κs = search needs
+
+returns : tie.Need-returns
+returns c =
+    let a = c .before .before .before .before .args in
+    let hs = seenHeads (a .count) (a .heads) in
+    let s = slice (a .first) (a .end) (now (a .packet)) in
+    let l : length s ≡ a .end - a .first = length-slice (a .first) (a .end) (now (a .packet)) (omega arith) in
+    let w : c .before .before .place .result .primary ≡ a .first + total hs = ap (λ (b : Blocks). b .primary) (c .before .before .place .ensures) in
+    c .refused .ensures ∙ sym (gives-20 refusedBlocks hs s (placedBlocks (a .end) hs s) (omega arith))
+
+check-requires : tie.Need-check-requires
+check-requires c κs =
+    let a = c .before .before .before .args in
+    let w : c .before .place .result .primary ≡ a .first + total (seenHeads (a .count) (a .heads)) = ap (λ (b : Blocks). b .primary) (c .before .place .ensures) in
+    (search needs, omega arith, search needs)
+
+enum-known-refusal : tie.Need-enum-known-refusal
+enum-known-refusal c = search needs
+
+refused-requires-2 : tie.Need-refused-requires-2
+refused-requires-2 c κs = search needs
+
+enum-told : tie.Need-enum-told
+enum-told c = search needs
+
+returns-2 : tie.Need-returns-2
+returns-2 c =
+    let q = c .before .before .before .before in
+    let a = q .before .before .before .before .args in
+    let hs = seenHeads (a .count) (a .heads) in
+    let s = slice (a .first) (a .end) (now (a .packet)) in
+    let l : length s ≡ a .end - a .first = length-slice (a .first) (a .end) (now (a .packet)) (omega arith) in
+    let w : q .before .before .place .result .primary ≡ a .first + total hs = ap (λ (b : Blocks). b .primary) (q .before .before .place .ensures) in
+    let t = bad-text (areText hs s) (c .before .before .refusal .given .0 .0) (sym (q .check .ensures) ∙ c .before .before .refusal .given .1) in
+    c .refused2 .ensures ∙ ap (λ (r : Refusal). refusedBlocks (number r)) (t .1) ∙ sym (gives-21 refusedBlocks hs s (placedBlocks (a .end) hs s) (omega arith) (t .0))
+
+returns-3 : tie.Need-returns-3
+returns-3 c =
+    let q = c .before .before in
+    let a = q .before .before .before .before .args in
+    let hs = seenHeads (a .count) (a .heads) in
+    let s = slice (a .first) (a .end) (now (a .packet)) in
+    let w : q .before .before .place .result .primary ≡ a .first + total hs = ap (λ (b : Blocks). b .primary) (q .before .before .place .ensures) in
+    let n : length hs ≡ a .count = length-take-le (a .count) (map seenHead (a .heads)) (omega (arith, q .before .before .before .before .pre .0, four (q .before .before .before .before), length-map (a .heads) seenHead)) in
+    let t : areText hs s ≡ true = good-text (areText hs s) (sym (q .check .ensures) ∙ c .enum-told .given .1) in
+    ap seen (q .before .before .place .ensures)
+    ∙ ap (λ (k : ℕ). record { number = 0; count = k; older = filled none level (headPlaces (a .first) hs); primary = a .first + total hs }) (sym n)
+    ∙ text-placed (now (a .packet)) (a .first) (a .end) hs (search needs) (search needs) (omega arith) t
+
+pub read-blocks-spec : {M : Type 1} → statement M
+read-blocks-spec =
+    tie.close
+    (tie.spec
+    place-requires
+    refused-requires
+    returns
+    check-requires
+    enum-known-refusal
+    refused-requires-2
+    enum-told
+    returns-2
+    returns-3)

@@ -1,0 +1,33 @@
+use mathlib.Core.Path.{_∙_, ap, sym}
+use borrow.Author.Needs.{needs}
+use Rattle.receiver.specs.declared.Answer.{Answer}
+use Rattle.receiver.specs.View.{answered}
+use Rattle.boundary.specs.Receiving.{stepNumber}
+use Rattle.boundary.proofs.number_of_step.Statement.{statement}
+use Rattle.boundary.proofs.number_of_step.Tie as tie
+
+enum-known-answer : tie.Need-enum-known-answer
+enum-known-answer c = search needs
+
+number-requires : tie.Need-number-requires
+number-requires c κs = search needs
+
+enum-told : tie.Need-enum-told
+enum-told c = search needs
+
+enum-told-2 : tie.Need-enum-told-2
+enum-told-2 c = search needs
+
+returns : tie.Need-returns
+returns c = c .number .ensures ∙ sym (ap (λ (a : Answer). stepNumber (answered a)) (c .before .before .answer .given .1))
+
+returns-2 : tie.Need-returns-2
+returns-2 c = search needs
+
+returns-3 : tie.Need-returns-3
+returns-3 c = search needs
+
+pub number-of-step-spec : {M : Type 1} → statement M
+number-of-step-spec =
+    tie.close
+    (tie.spec enum-known-answer number-requires enum-told enum-told-2 returns returns-2 returns-3)

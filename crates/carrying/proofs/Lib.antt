@@ -1,0 +1,2 @@
+pub mod Young
+pub mod Total

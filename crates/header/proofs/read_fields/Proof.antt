@@ -1,0 +1,90 @@
+use mathlib.Core.Path.{_≡_, _∙_, sym}
+use mathlib.Core.Bool.{false}
+use lib.Dec.{eqb}
+use borrow.Author.Needs.{needs}
+use denote.Ref.{now}
+use Rattle.packet_spec.specs.Header.{markerOf, payloadType, otherType, otherSource}
+use Rattle.packet.specs.Places.{sourceOf}
+use Rattle.header.specs.Seen.{refusedHeader, passedHeader}
+use Rattle.packet_spec.proofs.Order.{gives-15, gives-16, past-16}
+use Rattle.header.proofs.read_fields.Statement.{statement}
+use Rattle.header.proofs.read_fields.Tie as tie
+
+other-type-requires : tie.Need-other-type-requires
+other-type-requires c κs = search needs
+
+refused-requires : tie.Need-refused-requires
+refused-requires c κs = search needs
+
+returns : tie.Need-returns
+returns c =
+    let a = c .before .before .before .before .args in
+    let p = now (a .packet) in
+    c .refused .ensures
+    ∙ sym (gives-15 refusedHeader (sourceOf (a .expected)) (a .t140) (a .red) p (passedHeader (a .t140) p) (sym (c .before .before .other-type .ensures) ∙ c .before .if1 .taken))
+
+other-source-requires : tie.Need-other-source-requires
+other-source-requires c κs = search needs
+
+refused-requires-2 : tie.Need-refused-requires-2
+refused-requires-2 c κs = search needs
+
+returns-2 : tie.Need-returns-2
+returns-2 c =
+    let a = c .before .before .before .before .before .before .args in
+    let p = now (a .packet) in
+    let o = sym (c .before .before .before .before .other-type .ensures) ∙ c .before .before .before .if1 .left in
+    c .refused2 .ensures
+    ∙ sym (gives-16 refusedHeader (sourceOf (a .expected)) (a .t140) (a .red) p (passedHeader (a .t140) p) o (sym (c .before .before .other-source .ensures) ∙ c .before .if2 .taken))
+
+shared-slice-read-kind : tie.Need-shared-slice-read-kind
+shared-slice-read-kind c = search needs
+
+shared-slice-read-marker : tie.Need-shared-slice-read-marker
+shared-slice-read-marker c = search needs
+
+u16-at-requires : tie.Need-u16-at-requires
+u16-at-requires c κs = search needs
+
+u32-at-requires : tie.Need-u32-at-requires
+u32-at-requires c κs = search needs
+
+u32-at-requires-2 : tie.Need-u32-at-requires-2
+u32-at-requires-2 c κs = search needs
+
+returns-3 : tie.Need-returns-3
+returns-3 c =
+    let t = c .before .before .before .before .before in
+    let b = t .before .before .before .before .before in
+    let a = b .args in
+    let p = now (a .packet) in
+    let o : otherType (a .t140) (a .red) p ≡ false = sym (t .before .before .before .other-type .ensures) ∙ t .before .before .if1 .left in
+    let q : otherSource (sourceOf (a .expected)) p ≡ false = sym (t .before .other-source .ensures) ∙ t .if2 .left in
+    (λ i. record {
+      number = 0;
+      plain = eqb (payloadType p) (a .t140);
+      marker = markerOf p;
+      sequence = c .before .before .u16-at .ensures i;
+      timestamp = c .before .u32-at .ensures i;
+      source = c .u32-at2 .ensures i;
+      from = b .pre .1 i;
+      end = b .pre .2 i;
+    })
+    ∙ sym (past-16 refusedHeader (sourceOf (a .expected)) (a .t140) (a .red) p (passedHeader (a .t140) p) o q)
+
+pub read-fields-spec : {M : Type 1} → statement M
+read-fields-spec =
+    tie.close
+    (tie.spec
+    other-type-requires
+    refused-requires
+    returns
+    other-source-requires
+    refused-requires-2
+    returns-2
+    shared-slice-read-kind
+    shared-slice-read-marker
+    u16-at-requires
+    u32-at-requires
+    u32-at-requires-2
+    returns-3)

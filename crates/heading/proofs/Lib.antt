@@ -1,0 +1,3 @@
+pub mod LastFirst
+pub mod Turns
+pub mod Headers

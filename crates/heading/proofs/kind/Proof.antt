@@ -1,0 +1,13 @@
+use borrow.Author.Needs.{needs}
+use Rattle.base.proofs.Cases.{cases}
+use Rattle.heading.proofs.kind.Statement.{statement}
+use Rattle.heading.proofs.kind.Tie as tie
+
+returns : tie.Need-returns
+returns c = (search cases, search needs)
+
+returns-2 : tie.Need-returns-2
+returns-2 c = (search cases, search needs)
+
+pub kind-spec : {M : Type 1} → statement M
+kind-spec = tie.close (tie.spec returns returns-2)

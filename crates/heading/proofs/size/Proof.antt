@@ -1,0 +1,22 @@
+use borrow.Author.Needs.{needs}
+use Rattle.base.proofs.Cases.{cases}
+use Rattle.heading.proofs.size.Statement.{statement}
+use Rattle.heading.proofs.size.Tie as tie
+
+returns : tie.Need-returns
+returns c = search cases
+
+mul-result : tie.Need-mul-result
+mul-result c = search needs
+
+add-result : tie.Need-add-result
+add-result c = search needs
+
+add-result-2 : tie.Need-add-result-2
+add-result-2 c = search needs
+
+returns-2 : tie.Need-returns-2
+returns-2 c = search cases
+
+pub size-spec : {M : Type 1} → statement M
+size-spec = tie.close (tie.spec returns mul-result add-result add-result-2 returns-2)

@@ -1,0 +1,56 @@
+-- The headers of a packet, by the lengths and times of the blocks kept, newest first.
+use Prim.Native.Nat.{ℕ, _+_, _-_, _*_, _/_, _%_, min}
+use mathlib.Core.List.{List, [], _∷_, _++_}
+use mathlib.Core.Bool.{cond}
+use lib.Dec.{ltb, eqb}
+use lib.ListN.{length, getD}
+use Rattle.heading.specs.declared.Front.{Front}
+use Rattle.base.specs.Arrays.{over}
+use Rattle.packet_spec.specs.Limits.{level}
+use Rattle.packet_spec.specs.Encoding.{bytes16, bytes32, markerBit}
+use Rattle.delivery.specs.Run.{oldestAge}
+use Rattle.sender_spec.specs.Limits.{roomSize}
+use Rattle.heading.specs.LastFirst.{lastFirst}
+
+-- the fixed header, with M and the payload type as one byte
+abbrev pub headerOf : ℕ → ℕ → ℕ → ℕ → List ℕ
+headerOf second sequence timestamp source = 0x80 ∷ second ∷ (bytes16 sequence ++ (bytes32 timestamp ++ bytes32 source))
+
+-- an older block's header by its time offset and length
+abbrev pub headOf : ℕ → ℕ → ℕ → List ℕ
+headOf t140 offset len = (128 + t140) ∷ offset / 64 ∷ (offset % 64 * 4 + len / 256) ∷ len % 256 ∷ []
+
+-- a time offset has 14 bits
+abbrev pub offsetOf : ℕ → ℕ → ℕ
+offsetOf t at = min (t - at) oldestAge
+
+abbrev pub headAt : ℕ → ℕ → List ℕ → List ℕ → ℕ → List ℕ
+headAt t140 t lens ats i = headOf t140 (offsetOf t (getD ats i 0)) (min (getD lens i 0) roomSize)
+
+-- the headers of the first n blocks, oldest first, and the primary's
+abbrev pub headsOf : ℕ → ℕ → List ℕ → List ℕ → ℕ → List ℕ
+headsOf t140 t lens ats n = lastFirst (headAt t140 t lens ats) (t140 ∷ []) n
+
+-- M and the payload type
+abbrev pub secondOf : Front → ℕ
+secondOf f = markerBit (f .marker) + cond (eqb (f .level) 0) (f .t140 % 128) (f .red % 128)
+
+-- the block headers of a packet that repeats n blocks: none at level 0
+unfoldable pub headsWith : Front → ℕ → List ℕ
+headsWith f n = cond (eqb (f .level) 0) [] (headsOf (f .t140 % 128) (f .clock) (f .lens) (f .ats) n)
+
+-- all its headers
+abbrev pub frontWith : Front → ℕ → List ℕ
+frontWith f n = headerOf (secondOf f) (f .sequence) (f .timestamp) (f .source) ++ headsWith f n
+
+-- their length at level R
+abbrev pub frontSize : ℕ → ℕ → ℕ
+frontSize R n = cond (eqb R 0) 12 (12 + (4 * n + 1))
+
+-- no more blocks are repeated than there are
+abbrev pub frontOf : Front → ℕ → List ℕ
+frontOf f count = frontWith f (min count level)
+
+-- x over the front of the space, where it fits
+abbrev pub placed : List ℕ → List ℕ → List ℕ
+placed x p = cond (ltb (length p) (length x)) p (over x p)

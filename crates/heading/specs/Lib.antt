@@ -1,0 +1,2 @@
+pub mod LastFirst
+pub mod Headers

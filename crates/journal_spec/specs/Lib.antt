@@ -1,0 +1,4 @@
+pub mod Records
+pub mod Contents
+pub mod Lines
+pub mod Transcript

@@ -1,0 +1,79 @@
+-- The transcript of a journal (01, "Journal and transcript"): journal to packets, packets to the step's answers, answers to
+-- text and counts.
+use Prim.Native.Nat.{ℕ, _+_}
+use mathlib.Core.List.{List, [], _∷_, _++_}
+use mathlib.Core.Bool.{Bool, true, false, cond}
+use Rattle.receiver_spec.specs.Opening.{Receiver, openingOf, zeroReceiver}
+use Rattle.receiver_spec.specs.Step.{Answered, refuses, isLate, gives, stepOf, textGiven}
+use Rattle.receiver_spec.specs.Record.{lossOf}
+use Rattle.receiver_spec.specs.Marks.{marks}
+use Rattle.journal_spec.specs.Contents.{Contents, opens, packet, ends, breaks, journalOf}
+use Rattle.journal_spec.specs.Lines.{countsLine, brokenLine}
+
+-- the packets of a journal, the receiver that its open opens, and whether it ends
+abbrev pub packetsIn : Contents → List (List ℕ)
+packetsIn (opens t140 red c) = packetsIn c
+packetsIn (packet p c) = p ∷ packetsIn c
+packetsIn ends = []
+packetsIn breaks = []
+
+abbrev pub receiverIn : Contents → Receiver
+receiverIn (opens t140 red c) = openingOf t140 red .receiver
+receiverIn (packet p c) = zeroReceiver
+receiverIn ends = zeroReceiver
+receiverIn breaks = zeroReceiver
+
+abbrev pub isWhole : Contents → Bool
+isWhole (opens t140 red c) = isWhole c
+isWhole (packet p c) = isWhole c
+isWhole ends = true
+isWhole breaks = false
+
+-- each packet goes to the receiver that the one before it left
+abbrev pub answersOf : Receiver → List (List ℕ) → List Answered
+answersOf r [] = []
+answersOf r (p ∷ ps) = stepOf r p .answer ∷ answersOf (stepOf r p .receiver) ps
+
+-- "Marks stand before their packet's text", and "All of a loss's marks are written"
+abbrev pub printedOf : List ℕ → Answered → List ℕ
+printedOf p a = marks (lossOf a) ++ textGiven p a
+
+abbrev pub textOf : Receiver → List (List ℕ) → List ℕ
+textOf r [] = []
+textOf r (p ∷ ps) = printedOf p (stepOf r p .answer) ++ textOf (stepOf r p .receiver) ps
+
+-- the counts, over the list of answers: ""packets" counts those neither late nor refused"
+abbrev pub isForward : Answered → Bool
+isForward (refuses n) = false
+isForward (isLate z) = false
+isForward (gives g) = true
+
+abbrev pub isLateOne : Answered → Bool
+isLateOne (refuses n) = false
+isLateOne (isLate z) = true
+isLateOne (gives g) = false
+
+abbrev pub isRefused : Answered → Bool
+isRefused (refuses n) = true
+isRefused (isLate z) = false
+isRefused (gives g) = false
+
+abbrev pub howMany : (Answered → Bool) → List Answered → ℕ
+howMany f [] = 0
+howMany f (a ∷ answers) = cond (f a) 1 0 + howMany f answers
+
+abbrev pub lostIn : List Answered → ℕ
+lostIn [] = 0
+lostIn (a ∷ answers) = lossOf a + lostIn answers
+
+abbrev pub lineFor : List Answered → List ℕ
+lineFor answers = countsLine (howMany isForward answers) (howMany isLateOne answers) (lostIn answers) (howMany isRefused answers)
+
+abbrev pub printed : Contents → List ℕ
+printed c =
+    textOf (receiverIn c) (packetsIn c)
+    ++ cond (isWhole c) (lineFor (answersOf (receiverIn c) (packetsIn c))) brokenLine
+
+-- what a journal prints
+unfoldable pub transcript : List ℕ → List ℕ
+transcript j = printed (journalOf j)

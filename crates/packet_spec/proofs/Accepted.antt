@@ -1,0 +1,95 @@
+-- What is known of an accepted packet.
+use Prim.Native.Nat.{ℕ, zero, suc, _+_, _-_, _≤_}
+use mathlib.Core.Path.{_≡_, _∙_, refl}
+use mathlib.Core.List.{List, [], _∷_, _++_}
+use mathlib.Core.Bool.{Bool, true, false, cond}
+use native.Mathlib.Omega.{arith}
+use lib.Dec.{ltb, eqb}
+use lib.ListN.{length, getD, drop, length-append}
+use lib.Seq.{drop-drop}
+use borrow.Author.Tests.{ltb-false, not-false}
+use Rattle.packet_spec.specs.Header.{Expected}
+use Rattle.packet_spec.specs.Redundancy.{Head}
+use Rattle.packet_spec.specs.Header.{payloadType, payload}
+use Rattle.packet_spec.specs.Redundancy.{Heads, heads, bad, headOf, header, headers, total, areText}
+use Rattle.base.specs.Checks.{Check}
+use Rattle.packet_spec.specs.Reading.{Content, Read, holds, refused, inOrder, headerChecks, headsOf, content, blockChecks, blocksRead, reading}
+use Rattle.base.proofs.Tests.{by-test}
+use Rattle.base.proofs.InOrder.{NoneApplies}
+
+pub none-applies : (ks : List Check) (x : Read) (c : Content) → inOrder ks x ≡ holds c → NoneApplies ks × (x ≡ holds c)
+none-applies [] x c e = (tt, e)
+none-applies (k ∷ ks) x c e = go (k .applies) refl e (none-applies ks x c)
+  where
+    go : (b : Bool) → k .applies ≡ b → cond b (refused (k .number)) (inOrder ks x) ≡ holds c
+        → (inOrder ks x ≡ holds c → NoneApplies ks × (x ≡ holds c)) → NoneApplies (k ∷ ks) × (x ≡ holds c)
+    go true q f r = absurd (let z : _≡_ {A = ℕ} 0 1 = cc in omega arith)
+    go false q f r = ((q, r f .0), r f .1)
+
+-- what lies behind the headers is an end of the payload
+pub Behind : ℕ → List ℕ → Heads → Type 0
+Behind n m (bad k) = Unit {0}
+Behind n m (heads hs s) = (length hs ≤ n) × ((k : ℕ) × (s ≡ drop k m))
+
+header-behind : (n t : ℕ) (got : List Head) (m : List ℕ) (older : Heads) → length got ≤ n → Behind n m older → Behind n m (header t got m older)
+unfolding Behind
+header-behind n t got [] older h o = tt
+header-behind n t got (b ∷ bs) older h o =
+    by-test (Behind n (b ∷ bs)) (ltb b 128)
+    (λ _. by-test (Behind n (b ∷ bs)) (eqb b t) {x = heads got bs} (λ _. (h, (1, refl))) (λ _. tt))
+    (λ _. o)
+
+shifted : (n j : ℕ) (m : List ℕ) (h : Heads) → Behind n (drop j m) h → Behind n m h
+unfolding Behind
+shifted n j m (bad k) b = tt
+shifted n j m (heads hs s) b = (b .0, (j + b .1 .0, b .1 .1 ∙ drop-drop (b .1 .0) j m))
+
+headers-behind : (n t more : ℕ) (got : List Head) (m : List ℕ) → more + length got ≤ n → Behind n m (headers t more got m)
+unfolding headers Behind
+headers-behind n t zero got m h = header-behind n t got m (bad 18) (omega arith) tt
+headers-behind n t (suc more) got m h =
+    header-behind n t got m _ (omega arith)
+    (by-test (Behind n m) (ltb (length m) 4) {x = bad 17} (λ _. tt)
+    (λ _. by-test (Behind n m) (eqb (getD m 0 0 - 128) t) {y = bad 19}
+    (λ _. shifted n 4 m (headers t more (got ++ (headOf m ∷ [])) (drop 4 m))
+    (headers-behind n t more (got ++ (headOf m ∷ [])) (drop 4 m) (omega (arith, length-append got (headOf m ∷ [])))))
+    (λ _. tt)))
+
+pub heads-behind : (n t : ℕ) (p : List ℕ) → Behind n (payload p) (headsOf n t p)
+unfolding Behind
+heads-behind n t p =
+    by-test (Behind n (payload p)) (eqb (payloadType p) t) {x = heads [] (payload p)} (λ _. (omega arith, (0, refl)))
+    (λ _. headers-behind n t n [] (payload p) (omega arith))
+
+pub record Accepted (n : ℕ) (expected : Expected) (t140 red : ℕ) (p : List ℕ) (c : Content) : Type 0 where
+  pub checks : NoneApplies (headerChecks expected t140 red p)
+  pub hs : List Head
+  pub s : List ℕ
+  pub few : length hs ≤ n
+  pub from : ℕ
+  pub behind : s ≡ drop from (payload p)
+  pub fit : total hs ≤ length s
+  pub text : areText hs s ≡ true
+  pub is : c ≡ content p hs s
+
+pub accepted : (n : ℕ) (expected : Expected) (t140 red : ℕ) (p : List ℕ) (c : Content) → reading n expected t140 red p ≡ holds c → Accepted n expected t140 red p c
+unfolding reading Behind
+accepted n expected t140 red p c e =
+    let w = none-applies (headerChecks expected t140 red p) (blocksRead p (headsOf n t140 p)) c e in
+    go (headsOf n t140 p) (heads-behind n t140 p) (w .0) (w .1)
+  where
+    go : (h : Heads) → Behind n (payload p) h → NoneApplies (headerChecks expected t140 red p) → blocksRead p h ≡ holds c → Accepted n expected t140 red p c
+    go (bad k) b w f = absurd (let z : _≡_ {A = ℕ} 0 1 = cc in omega arith)
+    go (heads hs s) b w f =
+        let v = none-applies (blockChecks hs s) (holds (content p hs s)) c f in
+        record {
+          checks = w;
+          hs = hs;
+          s = s;
+          few = b .0;
+          from = b .1 .0;
+          behind = b .1 .1;
+          fit = ltb-false (length s) (total hs) (v .0 .0);
+          text = not-false (areText hs s) (v .0 .1 .0);
+          is = let q : holds (content p hs s) ≡ holds c = v .1 in cc;
+        }

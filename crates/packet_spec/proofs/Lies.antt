@@ -1,0 +1,117 @@
+-- What is known of a packet that the reader accepts: its blocks fill the payload's end, they are text and few, and the packet
+-- has the source that was expected.
+use Prim.Native.Nat.{ℕ, zero, suc, _+_, _-_, _≤_}
+use mathlib.Core.Path.{_≡_, _∙_, refl, ap, sym, subst}
+use mathlib.Core.List.{List, [], _∷_}
+use mathlib.Core.Bool.{true}
+use native.Mathlib.Omega.{arith}
+use lib.Dec.{eqb}
+use lib.ListN.{length, take, drop, length-drop, length-append}
+use lib.Seq.{slice, length-slice}
+use borrow.Author.Tests.{ltb-false, eqb-true, not-false}
+use Rattle.base.specs.Checks.{Check}
+use Rattle.packet_spec.specs.Limits.{longest}
+use Rattle.packet_spec.specs.Header.{Any, Only, Expected, headerEnd, payloadEnd, payload, sourceOf}
+use Rattle.packet_spec.specs.Redundancy.{Head, Block, olderOf, primaryOf, blocksOf, joined, allText}
+use Rattle.packet_spec.specs.Reading.{Content, Read, holds, inOrder, headerChecks, headsOf, content, blocksRead, reading, blocks, firstAt}
+use Rattle.base.proofs.Slices.{drop-slice}
+use Rattle.packet_spec.proofs.Payload.{payload-inside}
+use Rattle.base.proofs.InOrder.{NoneApplies}
+use Rattle.packet_spec.proofs.Accepted.{Accepted, accepted, none-applies}
+use Rattle.packet_spec.proofs.Runs.{reach, joined-split, joined-drop, cut-joined}
+
+pub blocks-length : (older : List Block) (primary : List ℕ) → length (blocksOf older primary) ≡ suc (length older)
+blocks-length [] primary = refl
+blocks-length (b ∷ bs) primary = ap suc (blocks-length bs primary)
+
+pub older-length : (hs : List Head) (s : List ℕ) → length (olderOf hs s) ≡ length hs
+older-length [] s = refl
+older-length (h ∷ hs) s = ap suc (older-length hs (drop (h .len) s))
+
+-- an end of a list, by its length
+end-of : (m : List ℕ) (k : ℕ) → drop (length m - length (drop k m)) m ≡ drop k m
+end-of m zero = let e : length m - length m ≡ 0 = omega arith in ap (λ (n : ℕ). drop n m) e
+end-of [] (suc k) = refl
+end-of (x ∷ m) (suc k) =
+    let l : length (drop k m) ≡ length m - k = length-drop k m in
+    let e : suc (length m) - length (drop k m) ≡ suc (length m - length (drop k m)) = omega arith in
+    ap (λ (n : ℕ). drop n (x ∷ m)) e ∙ end-of m k
+
+-- arithmetic of places
+least : (l m k : ℕ) → l ≡ m - k → l ≤ m
+least l m k e = omega arith
+
+within-end : (l m e h : ℕ) → m ≡ e - h → l ≤ m → l ≤ e
+within-end l m e h a b = omega arith
+
+behind-is : (h e m l : ℕ) → m ≡ e - h → h ≤ e → l ≤ m → h + (m - l) ≡ e - l
+behind-is h e m l a b c = omega arith
+
+pub record Lies (p : List ℕ) (c : Content) : Type 0 where
+  pub inside : payloadEnd p ≤ length p
+  pub room : length (joined (blocks c)) ≤ payloadEnd p
+  pub fill : slice (firstAt p c) (payloadEnd p) p ≡ joined (blocks c)
+
+-- the blocks from one on fill the payload's end
+pub rest-fills : (p : List ℕ) (c : Content) → Lies p c → (i : ℕ) → slice (payloadEnd p - length (joined (drop i (blocks c)))) (payloadEnd p) p ≡ joined (drop i (blocks c))
+rest-fills p c l i =
+    let bs = blocks c in
+    let s : length (joined bs) ≡ reach bs i + length (joined (drop i bs)) = ap length (joined-split i bs) ∙ length-append (joined (take i bs)) (joined (drop i bs)) in
+    let r : length (joined bs) ≤ payloadEnd p = l .room in
+    let f : payloadEnd p - length (joined (drop i bs)) ≡ firstAt p c + reach bs i = omega arith in
+    ap (λ (j : ℕ). slice j (payloadEnd p) p) f ∙ sym (drop-slice (firstAt p c) (payloadEnd p) p (reach bs i)) ∙ ap (drop (reach bs i)) (l .fill) ∙ joined-drop i bs
+
+module _ (n : ℕ) (expected : Expected) (t140 red : ℕ) (p : List ℕ) (c : Content) (e : reading n expected t140 red p ≡ holds c) where
+  is-accepted : Accepted n expected t140 red p c
+  is-accepted = accepted n expected t140 red p c e
+
+  pub lies : Lies p c
+  lies =
+      let a = is-accepted in
+      let hs = a .hs in
+      let s = a .s in
+      let m = payload p in
+      let k = content p hs s in
+      let h : headerEnd p ≤ payloadEnd p = payload-inside p (a .checks .1 .1 .1 .1 .0) (a .checks .1 .1 .1 .1 .1 .0) in
+      let i : payloadEnd p ≤ length p = omega arith in
+      let lm : length m ≡ payloadEnd p - headerEnd p = length-slice (headerEnd p) (payloadEnd p) p i in
+      let ls : length s ≡ length m - a .from = ap length (a .behind) ∙ length-drop (a .from) m in
+      let lj : length (joined (blocks k)) ≡ length s = ap length (cut-joined hs s) in
+      let sm : length s ≤ length m = least (length s) (length m) (a .from) ls in
+      let se : length s ≤ payloadEnd p = within-end (length s) (length m) (payloadEnd p) (headerEnd p) lm sm in
+      let g : headerEnd p + (length m - length s) ≡ payloadEnd p - length s = behind-is (headerEnd p) (payloadEnd p) (length m) (length s) lm h sm in
+      let fill : slice (firstAt p k) (payloadEnd p) p ≡ joined (blocks k) =
+      ap (λ (j : ℕ). slice (payloadEnd p - j) (payloadEnd p) p) lj
+      ∙ ap (λ (j : ℕ). slice j (payloadEnd p) p) (sym g)
+      ∙ sym (drop-slice (headerEnd p) (payloadEnd p) p (length m - length s))
+      ∙ ap (λ (l : List ℕ). drop (length m - length l) m) (a .behind)
+      ∙ end-of m (a .from)
+      ∙ sym (a .behind)
+      ∙ sym (cut-joined hs s) in
+      subst (Lies p) (sym (a .is)) (record { inside = i; room = omega arith; fill = fill })
+
+  pub are-text : allText (blocks c) ≡ true
+  are-text = let a = is-accepted in ap (λ (k : Content). allText (blocks k)) (a .is) ∙ a .text
+
+  pub few : length (c .older) ≤ n
+  few = let a = is-accepted in omega (arith, ap (λ (k : Content). length (k .older)) (a .is) ∙ older-length (a .hs) (a .s), a .few)
+
+  pub long : length p ≤ longest
+  long = ltb-false longest (length p) (is-accepted .checks .1 .1 .0)
+
+-- a packet accepted with one expected source is accepted with any, and has that source
+all-pass : (ks : List Check) (x : Read) → NoneApplies ks → inOrder ks x ≡ x
+all-pass [] x a = refl
+all-pass (k ∷ ks) x a = rw (a .0) (all-pass ks x (a .1))
+
+pub of-one-source : (n s t140 red : ℕ) (p : List ℕ) (c : Content) → reading n (Only s) t140 red p ≡ holds c → (reading n Any t140 red p ≡ holds c) × (c .source ≡ s)
+unfolding reading
+of-one-source n s t140 red p c e =
+    let a = accepted n (Only s) t140 red p c e in
+    let x = blocksRead p (headsOf n t140 p) in
+    let w = a .checks in
+    let v = w .1 .1 .1 .1 in
+    let h : NoneApplies (headerChecks Any t140 red p) = (w .0, (w .1 .0, (w .1 .1 .0, (w .1 .1 .1 .0, (v .0, (v .1 .0, (v .1 .1 .0, (refl, tt)))))))) in (
+      all-pass (headerChecks Any t140 red p) x h ∙ none-applies (headerChecks (Only s) t140 red p) x c e .1,
+      ap (λ (k : Content). k .source) (a .is) ∙ eqb-true (sourceOf p) s (not-false (eqb (sourceOf p) s) (v .1 .1 .1 .0)),
+    )

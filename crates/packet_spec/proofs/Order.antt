@@ -1,0 +1,69 @@
+-- Which check of the header decides, by plain facts.
+use Prim.Native.Nat.{ℕ, _<_, _≤_}
+use mathlib.Core.Path.{_≡_}
+use mathlib.Core.List.{List}
+use mathlib.Core.Bool.{true, false}
+use lib.Dec.{ltb}
+use lib.ListN.{length, drop}
+use borrow.Author.Tests.{lt-ltb, le-ltb, eq-eqb, ne-eqb}
+use Rattle.packet_spec.specs.Header.{Expected}
+use Rattle.packet_spec.specs.Redundancy.{Head}
+use Rattle.packet_spec.specs.Limits.{shortest, longest}
+use Rattle.packet_spec.specs.Header.{version, headerEnd, paddingBad, typesBad, otherType, otherSource}
+use Rattle.packet_spec.specs.Redundancy.{total, areText}
+use Rattle.base.specs.Checks.{checked}
+use Rattle.packet_spec.specs.Reading.{headerChecks, blockChecks}
+
+module _ {A : Type 0} (refuse : ℕ → A) (expected : Expected) (t140 red : ℕ) (p : List ℕ) (x : A) where
+  -- checks from the n-th on
+  abbrev pub from : ℕ → A
+  from n = checked refuse (drop n (headerChecks expected t140 red p)) x
+
+  pub gives-3 : typesBad t140 red ≡ true → from 0 ≡ refuse 3
+  gives-3 e = rw e
+
+  pub gives-10 : typesBad t140 red ≡ false → length p < shortest → from 0 ≡ refuse 10
+  gives-10 e h = rw (e, lt-ltb (length p) shortest h)
+
+  module _ (types : typesBad t140 red ≡ false) (long : shortest ≤ length p) where
+    pub gives-11 : longest < length p → from 0 ≡ refuse 11
+    gives-11 h = rw (types, le-ltb (length p) shortest long, lt-ltb longest (length p) h)
+
+    module _ (short : length p ≤ longest) where
+      pub gives-12 : (version p ≡ 2 → ⊥) → from 0 ≡ refuse 12
+      gives-12 f = rw (types, le-ltb (length p) shortest long, le-ltb longest (length p) short, ne-eqb (version p) 2 f)
+
+      pub past-12 : version p ≡ 2 → from 0 ≡ from 4
+      past-12 e = rw (types, le-ltb (length p) shortest long, le-ltb longest (length p) short, eq-eqb (version p) 2 e)
+
+  pub gives-13 : ltb (length p) (headerEnd p) ≡ true → from 4 ≡ refuse 13
+  gives-13 e = rw e
+
+  module _ (header : ltb (length p) (headerEnd p) ≡ false) where
+    pub gives-14 : paddingBad p ≡ true → from 4 ≡ refuse 14
+    gives-14 e = rw (header, e)
+
+    pub past-14 : paddingBad p ≡ false → from 4 ≡ from 6
+    past-14 e = rw (header, e)
+
+  pub gives-15 : otherType t140 red p ≡ true → from 6 ≡ refuse 15
+  gives-15 e = rw e
+
+  module _ (type : otherType t140 red p ≡ false) where
+    pub gives-16 : otherSource expected p ≡ true → from 6 ≡ refuse 16
+    gives-16 e = rw (type, e)
+
+    pub past-16 : otherSource expected p ≡ false → from 6 ≡ x
+    past-16 e = rw (type, e)
+
+-- the blocks' checks
+module _ {A : Type 0} (refuse : ℕ → A) (hs : List Head) (s : List ℕ) (x : A) where
+  pub gives-20 : length s < total hs → checked refuse (blockChecks hs s) x ≡ refuse 20
+  gives-20 h = rw (lt-ltb (length s) (total hs) h)
+
+  module _ (fit : total hs ≤ length s) where
+    pub gives-21 : areText hs s ≡ false → checked refuse (blockChecks hs s) x ≡ refuse 21
+    gives-21 e = rw (le-ltb (length s) (total hs) fit, e)
+
+    pub past-21 : areText hs s ≡ true → checked refuse (blockChecks hs s) x ≡ x
+    past-21 e = rw (le-ltb (length s) (total hs) fit, e)

@@ -1,0 +1,5 @@
+pub mod Limits
+pub mod Header
+pub mod Redundancy
+pub mod Reading
+pub mod Encoding

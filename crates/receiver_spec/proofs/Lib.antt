@@ -1,0 +1,5 @@
+pub mod Blocks
+pub mod TextGiven
+pub mod Within
+pub mod Core
+pub mod MarkTests

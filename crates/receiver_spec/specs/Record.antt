@@ -1,0 +1,47 @@
+-- The record: over the accepted packets in order, as many loss marks as the answer's loss, and then the blocks given.
+use Prim.Native.Nat.{ℕ}
+use mathlib.Core.Bool.{Bool, true, false, cond}
+use mathlib.Core.List.{List, [], _∷_, _++_}
+use Rattle.packet_spec.specs.Header.{Any}
+use Rattle.packet_spec.specs.Limits.{level}
+use Rattle.packet_spec.specs.Reading.{Read, holds, refused, reading, blocks}
+use Rattle.delivery.specs.Record.{Entry, entries, lastOf}
+use Rattle.receiver_spec.specs.Opening.{Receiver}
+use Rattle.receiver_spec.specs.Step.{Answered, refuses, isLate, gives, stepOf}
+
+-- the blocks of a packet, oldest first and the primary last
+abbrev pub blocksRead : Read → List (List ℕ)
+blocksRead (refused n) = []
+blocksRead (holds c) = blocks c
+
+abbrev pub blocksIn : Receiver → List ℕ → List (List ℕ)
+blocksIn r p = blocksRead (reading level Any (r .t140) (r .red) p)
+
+-- the last blocks of the packet, as many as the answer says
+abbrev pub blocksGiven : Receiver → List ℕ → Answered → List (List ℕ)
+blocksGiven r p (refuses n) = []
+blocksGiven r p (isLate z) = []
+blocksGiven r p (gives g) = lastOf (g .given) (blocksIn r p)
+
+abbrev pub lossOf : Answered → ℕ
+lossOf (refuses n) = 0
+lossOf (isLate z) = 0
+lossOf (gives g) = g .loss
+
+abbrev pub entriesOf : Receiver → List ℕ → Answered → List Entry
+entriesOf r p a = entries (lossOf a) (blocksGiven r p a)
+
+-- each call gets the receiver that the last call returned
+abbrev pub recordOf : Receiver → List (List ℕ) → List Entry
+recordOf r [] = []
+recordOf r (p ∷ ps) = entriesOf r p (stepOf r p .answer) ++ recordOf (stepOf r p .receiver) ps
+
+-- accepted: answered without a refusal number, late or not
+abbrev pub isAccepted : Answered → Bool
+isAccepted (refuses n) = false
+isAccepted (isLate z) = true
+isAccepted (gives g) = true
+
+abbrev pub acceptedOf : Receiver → List (List ℕ) → List (List ℕ)
+acceptedOf r [] = []
+acceptedOf r (p ∷ ps) = cond (isAccepted (stepOf r p .answer)) (p ∷ []) [] ++ acceptedOf (stepOf r p .receiver) ps

@@ -1,0 +1,83 @@
+-- The receiver's step (01, "The receiver's step").
+use Prim.Native.Nat.{ℕ, suc, _-_}
+use mathlib.Core.Bool.{true, cond}
+use mathlib.Core.List.{List, []}
+use lib.IntN.{ℤ, pos}
+use lib.ListN.{length}
+use Rattle.base.specs.Arrays.{part}
+use Rattle.packet_spec.specs.Limits.{level}
+use Rattle.packet_spec.specs.Header.{Expected, Any, Only, payloadEnd}
+use Rattle.packet_spec.specs.Redundancy.{joined}
+use Rattle.packet_spec.specs.Reading.{Content, Read, holds, refused, reading, blocks}
+use Rattle.delivery.specs.Numbers.{next, distance, Course, forward, late, courseOf}
+use Rattle.delivery.specs.Record.{lastOf, loss, wanted}
+use Rattle.receiver_spec.specs.Distance.{signed}
+use Rattle.receiver_spec.specs.Opening.{Receiver}
+
+-- what a forward packet gives: the number of marks, the signed distance, how many older blocks it has, how many of its
+-- last blocks are given, and where these start and end
+pub record Given : Type 0 where
+  pub loss : ℕ
+  pub distance : ℤ
+  pub older : ℕ
+  pub given : ℕ
+  pub from : ℕ
+  pub to : ℕ
+
+-- an answer by 01's numbers
+pub data Answered : Type 0 where
+  refuses : ℕ → Answered
+  isLate : ℤ → Answered
+  gives : Given → Answered
+
+pub record Step : Type 0 where
+  pub receiver : Receiver
+  pub answer : Answered
+
+-- any source before the first accepted packet, then only its source
+abbrev pub sourceExpected : Receiver → Expected
+sourceExpected r = cond (r .hasSource) (Only (r .source)) Any
+
+-- an accepted packet fixes the source, and the next number is expected
+abbrev pub movedTo : Receiver → Content → Receiver
+movedTo r c = record { t140 = r .t140; red = r .red; hasSource = true; source = c .source; expected = next (c .sequence) }
+
+-- the last w older blocks and the primary, which fill the end of the payload
+abbrev pub givenFrom : List ℕ → Content → ℕ → ℤ → ℕ → Given
+givenFrom p c marks z w = record {
+  loss = marks;
+  distance = z;
+  older = length (c .older);
+  given = suc w;
+  from = payloadEnd p - length (joined (lastOf (suc w) (blocks c)));
+  to = payloadEnd p;
+}
+
+-- fresh: all blocks, loss 0, distance 0
+abbrev pub firstStep : Receiver → List ℕ → Content → Step
+firstStep r p c = record { receiver = movedTo r c; answer = gives (givenFrom p c 0 (pos 0) (length (c .older))) }
+
+-- d at most 32,767: loss d minus r, the last min(d, r) older blocks; d at least 32,768: late, state unchanged
+abbrev pub stepBy : Course → Receiver → List ℕ → Content → ℕ → Step
+stepBy forward r p c d = record {
+  receiver = movedTo r c;
+  answer = gives (givenFrom p c (loss d (length (c .older))) (signed d) (wanted d (length (c .older))));
+}
+stepBy late r p c d = record { receiver = r; answer = isLate (signed d) }
+
+abbrev pub laterStep : Receiver → List ℕ → Content → ℕ → Step
+laterStep r p c d = stepBy (courseOf d) r p c d
+
+abbrev pub stepRead : Receiver → List ℕ → Read → Step
+stepRead r p (refused n) = record { receiver = r; answer = refuses n }
+stepRead r p (holds c) = cond (r .hasSource) (laterStep r p c (distance (c .sequence) (r .expected))) (firstStep r p c)
+
+-- the checks of reading first: 3 on the types held, 10 to 15, 16, 17 to 21
+unfoldable pub stepOf : Receiver → List ℕ → Step
+stepOf r p = stepRead r p (reading level (sourceExpected r) (r .t140) (r .red) p)
+
+-- the text handed out: the part of the packet from the first wanted block to the primary's end
+abbrev pub textGiven : List ℕ → Answered → List ℕ
+textGiven p (refuses n) = []
+textGiven p (isLate z) = []
+textGiven p (gives g) = part (g .from) (g .to) p

@@ -1,0 +1,1 @@
+// Definitions and theorems: the receiver of a text line. No function.

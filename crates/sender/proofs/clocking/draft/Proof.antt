@@ -1,0 +1,34 @@
+use mathlib.Core.Path.{_≡_}
+use borrow.Author.Needs.{needs}
+use Rattle.sender.proofs.clocking.draft.Statement.{statement}
+use Rattle.sender.proofs.clocking.draft.Tie as tie
+
+marker-requires : tie.Need-marker-requires
+marker-requires c κs = search needs
+
+timestamp-requires : tie.Need-timestamp-requires
+timestamp-requires c κs = search needs
+
+returns : tie.Need-returns
+returns c =
+    let a = c .before .before .before .before .before .before .args in
+    let s = a .sender in
+    let start = c .before .before .before .before .before .before in
+    λ i. record {
+      level = s .settings .level;
+      t140 = s .settings .t140;
+      red = s .settings .red;
+      marker = c .before .marker .ensures i;
+      sequence = s .progress .next;
+      timestamp = c .timestamp .ensures i;
+      source = s .settings .source;
+      clock = a .clock;
+      lens = s .lens;
+      ats = s .ats;
+      count = s .count;
+      room = s .room;
+      len = start .pre i;
+    }
+
+pub draft-spec : {M : Type 1} → statement M
+draft-spec = tie.close (tie.spec marker-requires timestamp-requires returns)

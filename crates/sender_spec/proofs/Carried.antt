@@ -1,0 +1,53 @@
+-- The blocks that a packet carries: few, recent, and such as may be sent.
+use Prim.Native.Nat.{ℕ, suc, _-_, _≤_}
+use mathlib.Core.Path.{_≡_, refl}
+use mathlib.Core.List.{List, [], _∷_, reverse}
+use mathlib.Core.Bool.{Bool, true, false, _&&_}
+use native.Mathlib.Omega.{arith}
+use lib.Dec.{leb}
+use lib.ListN.{length, take, length-take, length-map, length-reverse}
+use borrow.Author.Tests.{leb-true}
+use Rattle.packet_spec.specs.Redundancy
+use Rattle.delivery.specs.Run.{oldestAge}
+use Rattle.sender_spec.specs.State.{Block, Sender}
+use Rattle.sender_spec.specs.Packets.{recent, recentRun, carried, repeated, contentOf}
+use Rattle.base.proofs.Tests.{by-test}
+use Rattle.base.proofs.Every.{Every, every-take, every-reverse, every-map}
+use Rattle.sender_spec.proofs.Good.{Sendable, AllSendable, Good}
+
+-- an older block of a packet
+abbrev pub Repeatable : Redundancy.Block → Type 0
+Repeatable b = Sendable (b .bytes) × (b .offset ≤ oldestAge)
+
+pub recent-true : (t : ℕ) (b : Block) → recent t b ≡ true → (b .at ≤ t) × (t - b .at ≤ oldestAge)
+recent-true t b e = go (leb (b .at) t) refl e
+  where
+    go : (a : Bool) → leb (b .at) t ≡ a → (a && leb (t - b .at) oldestAge) ≡ true → (b .at ≤ t) × (t - b .at ≤ oldestAge)
+    go true p e = (leb-true (b .at) t p, leb-true (t - b .at) oldestAge e)
+    go false p e = absurd (let z : _≡_ {A = ℕ} 0 1 = cc in omega arith)
+
+module _ (t : ℕ) where
+  abbrev Carriable : Block → Type 0
+  Carriable b = Repeatable (repeated t b)
+
+  run-good : (bs : List Block) → AllSendable bs → Every Carriable (recentRun t bs)
+  run-good [] e = tt
+  run-good (b ∷ bs) e = by-test (Every Carriable) (recent t b) (λ r. ((e .0, recent-true t b r .1), run-good bs (e .1))) (λ r. tt)
+
+  pub run-few : (bs : List Block) → length (recentRun t bs) ≤ length bs
+  run-few [] = omega arith
+  run-few (b ∷ bs) = by-test (λ (l : List Block). length l ≤ suc (length bs)) (recent t b) (λ r. let h = run-few bs in omega arith) (λ r. omega arith)
+
+module _ (s : Sender) (t : ℕ) where
+  pub carried-few : length (carried s t) ≤ s .settings .level
+  carried-few = omega (arith, run-few t (take (s .settings .level) (s .kept)), length-take (s .settings .level) (s .kept))
+
+  pub older-few : length (contentOf s t .older) ≤ s .settings .level
+  older-few = let h = carried-few in omega (arith, length-map (reverse (carried s t)) (repeated t), length-reverse (carried s t))
+
+  pub older-good : Good s → Every Repeatable (contentOf s t .older)
+  older-good g =
+      let n = s .settings .level in
+      let k : AllSendable (take n (s .kept)) = every-take (λ (b : Block). Sendable (b .text)) n (s .kept) (g .kept) in
+      let r : Every (Carriable t) (carried s t) = run-good t (take n (s .kept)) k in
+      every-map (Carriable t) Repeatable (repeated t) (λ b h. h) (reverse (carried s t)) (every-reverse (Carriable t) (carried s t) r)

@@ -1,0 +1,12 @@
+pub mod Tables
+pub mod CaseTests
+pub mod Calls
+pub mod Passed
+pub mod Accepted
+pub mod Shapes
+pub mod Good
+pub mod Sizes
+pub mod Carried
+pub mod ReadsBack
+pub mod TextBytes
+pub mod PacketBytes

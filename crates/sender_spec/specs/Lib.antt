@@ -1,0 +1,8 @@
+pub mod Limits
+pub mod State
+pub mod Settings
+pub mod Answers
+pub mod Opening
+pub mod Offering
+pub mod Packets
+pub mod Clocking

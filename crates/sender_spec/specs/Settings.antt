@@ -1,0 +1,31 @@
+-- The checks of a sender's settings: "Opening a sender checks 1, 2, 3 in order" (01, "Refusal numbers").
+use Prim.Native.Nat.{ℕ}
+use mathlib.Core.List.{List, [], _∷_}
+use mathlib.Core.Bool.{Bool, _||_, not}
+use lib.Dec.{ltb, eqb}
+use Rattle.sender_spec.specs.State.{Settings}
+use Rattle.packet_spec.specs.Limits.{level}
+use Rattle.packet_spec.specs.Header.{typesBad}
+use Rattle.base.specs.Checks.{Check, _gives_, checked}
+use Rattle.sender_spec.specs.Limits.{longestBuffering}
+
+-- "buffering time 0 or above 500"
+abbrev pub bufferingBad : ℕ → Bool
+bufferingBad b = eqb b 0 || ltb longestBuffering b
+
+-- "R above 4"; the buffering time; "payload types outside 96..127, or equal"
+abbrev pub settingsChecks : Settings → List Check
+settingsChecks s =
+    ltb level (s .level) gives 1
+    ∷ bufferingBad (s .buffering) gives 2
+    ∷ typesBad (s .t140) (s .red) gives 3
+    ∷ []
+
+-- the number of the first that applies; 0 where none does
+unfoldable pub settingsNumber : Settings → ℕ
+settingsNumber s = checked (λ n. n) (settingsChecks s) 0
+
+-- the three as one check: an opening makes it, and "Every call on either first repeats its opening's checks on the settings
+-- held"
+abbrev pub settingsCheck : Settings → Check
+settingsCheck s = not (eqb (settingsNumber s) 0) gives settingsNumber s

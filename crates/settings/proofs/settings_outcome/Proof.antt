@@ -1,0 +1,34 @@
+use mathlib.Core.Path.{_∙_, sym}
+use native.Mathlib.Omega.{arith}
+use borrow.Author.Needs.{needs}
+use Rattle.sender_spec.proofs.Calls.{settings-1, settings-2, settings-3, settings-pass}
+use Rattle.settings.specs.State.{settingsOf}
+use Rattle.settings.proofs.settings_outcome.Statement.{statement}
+use Rattle.settings.proofs.settings_outcome.Tie as tie
+
+returns : tie.Need-returns
+returns c = sym (settings-1 (settingsOf (c .before .args .settings)) (omega arith))
+
+buffering-bad-requires : tie.Need-buffering-bad-requires
+buffering-bad-requires c κs = search needs
+
+returns-2 : tie.Need-returns-2
+returns-2 c = sym (settings-2 (settingsOf (c .before .before .before .args .settings)) (omega arith) (sym (c .before .buffering-bad .ensures) ∙ c .if2 .taken))
+
+types-bad-requires : tie.Need-types-bad-requires
+types-bad-requires c κs = search needs
+
+returns-3 : tie.Need-returns-3
+returns-3 c =
+    let s = settingsOf (c .before .before .before .before .before .args .settings) in
+    sym (settings-3 s (omega arith) (sym (c .before .before .before .buffering-bad .ensures) ∙ c .before .before .if2 .left) (sym (c .before .types-bad .ensures) ∙ c .if3 .taken))
+
+returns-4 : tie.Need-returns-4
+returns-4 c =
+    let s = settingsOf (c .before .before .before .before .before .args .settings) in
+    sym (settings-pass s (omega arith) (sym (c .before .before .before .buffering-bad .ensures) ∙ c .before .before .if2 .left) (sym (c .before .types-bad .ensures) ∙ c .if3 .left))
+
+pub settings-outcome-spec : {M : Type 1} → statement M
+settings-outcome-spec =
+    tie.close
+    (tie.spec returns buffering-bad-requires returns-2 types-bad-requires returns-3 returns-4)

@@ -1,0 +1,121 @@
+// What a sender is opened with, and how far it has come: the checks of the settings, and what a packet takes from both.
+ghost use mathlib.Core.Path.{_≡_};
+ghost use mathlib.Core.Bool.{cond, not, _||_, _&&_};
+ghost use lib.Dec.{ltb, leb};
+ghost use Prim.Native.Nat.{_+_, _-_, _%_};
+ghost use Rattle.packet.specs.Refusal.{outcomeNumber};
+ghost use Rattle.sender_spec.specs.Settings.{bufferingBad, settingsNumber};
+ghost use Rattle.settings.specs.State.{settingsOf};
+use packet::Outcome;
+use packet::Packet;
+use packet::Refusal;
+
+// What a sender is opened with: the number of repeats, the buffering time in ms, the two payload types, the first sequence
+// number, the first timestamp and the source.
+#[repr(C)]
+pub struct Settings {
+    pub level: usize,
+    pub buffering: u64,
+    pub t140: u8,
+    pub red: u8,
+    pub sequence: u16,
+    pub timestamp: u32,
+    pub source: u32,
+}
+
+impl Settings {
+    // The usual buffering time, in ms.
+    pub const BUFFERING: u64 = 300;
+
+    pub const LONGEST_BUFFERING: u64 = 500;
+}
+
+// Whether a packet was sent, when the last one was, when the last one with text was, and the next sequence number.
+#[repr(C)]
+pub struct Progress {
+    pub sent: bool,
+    pub last: u64,
+    pub last_text: u64,
+    pub next: u16,
+}
+
+fn buffering_bad(buffering: u64) -> bool
+    ensures { λ r. ⌜ r ≡ bufferingBad buffering ⌝ }
+{
+    if buffering == 0 {
+        return true;
+    }
+    Settings::LONGEST_BUFFERING < buffering
+}
+
+// The refusal that the settings call for.
+pub fn settings_outcome(settings: Settings) -> Outcome
+    ensures { λ r. ⌜ outcomeNumber r ≡ settingsNumber (settingsOf settings) ⌝ }
+{
+    let level = settings.level;
+    if Packet::LEVEL < level {
+        return Outcome::Refused(Refusal::Level);
+    }
+    if buffering_bad(settings.buffering) {
+        return Outcome::Refused(Refusal::Buffering);
+    }
+    if header::types_bad(settings.t140, settings.red) {
+        return Outcome::Refused(Refusal::PayloadTypes);
+    }
+    Outcome::Accepted
+}
+
+// The time since `from`, 0 where that is later.
+fn passed(clock: u64, from: u64) -> u64
+    ensures { λ r. ⌜ r ≡ clock - from ⌝ }
+{
+    if clock < from {
+        return 0;
+    }
+    clock - from
+}
+
+// None was sent yet, or the buffering time has passed since the last.
+pub fn ready(progress: Progress, buffering: u64, clock: u64) -> bool
+    ensures { λ r. ⌜ r ≡ (not (progress .sent) || leb buffering (clock - progress .last)) ⌝ }
+{
+    let sent = progress.sent;
+    if sent {
+        let waited = passed(clock, progress.last);
+        return buffering <= waited;
+    }
+    true
+}
+
+// M of a packet, by whether text waits, and when its first byte was offered.
+pub fn marker(progress: Progress, buffering: u64, waits: bool, since: u64) -> bool
+    ensures { λ r. ⌜ r ≡ (not (progress .sent) || (waits && ltb buffering (since - progress .«last_text»))) ⌝ }
+{
+    let sent = progress.sent;
+    if !sent {
+        return true;
+    }
+    if !waits {
+        return false;
+    }
+    let waited = passed(since, progress.last_text);
+    buffering < waited
+}
+
+// The first timestamp and the clock, wrapped.
+pub fn timestamp(first: u32, clock: u64) -> u32
+    ensures { λ r. ⌜ r ≡ (first + clock) % 4294967296 ⌝ }
+{
+    let low = (clock % 4294967296) as u32;
+    std::num::wrapping_add_u32(first, low)
+}
+
+// When the last packet with text was sent, by the length of what a packet takes.
+pub fn last_text(len: usize, before: u64, clock: u64) -> u64
+    ensures { λ r. ⌜ r ≡ cond (ltb 0 len) clock before ⌝ }
+{
+    if 0 < len {
+        return clock;
+    }
+    before
+}

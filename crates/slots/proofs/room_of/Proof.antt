@@ -1,0 +1,12 @@
+use Rattle.base.proofs.Cases.{cases}
+use Rattle.slots.proofs.room_of.Statement.{statement}
+use Rattle.slots.proofs.room_of.Tie as tie
+
+returns : tie.Need-returns
+returns c = search cases
+
+returns-2 : tie.Need-returns-2
+returns-2 c = search cases
+
+pub room-of-spec : {M : Type 1} → statement M
+room-of-spec = tie.close (tie.spec returns returns-2)

@@ -1,0 +1,23 @@
+-- What a letter that has begun still owes, by plain facts.
+use Prim.Native.Nat.{ℕ, zero, suc, _-_}
+use mathlib.Core.Path.{_≡_, refl, ap}
+use mathlib.Core.List.{[], _∷_}
+use native.Mathlib.Omega.{arith}
+use lib.ListN.{replicate}
+use Rattle.text.specs.declared.Owed.{Owed}
+use Rattle.text_spec.specs.Utf8.{_to_, tail}
+use Rattle.text.specs.Owed.{ranges, owes}
+
+pub owes-none : (o : Owed) → o .tails ≡ 0 → owes o ≡ []
+owes-none o e = ap (λ (n : ℕ). ranges n (o .low to o .high)) e
+
+pub owes-some : (o : Owed) → (o .tails ≡ 0 → ⊥) → owes o ≡ (o .low to o .high) ∷ replicate (o .tails - 1) tail
+owes-some o h = go (o .tails) h
+  where
+    go : (n : ℕ) → (n ≡ 0 → ⊥) → ranges n (o .low to o .high) ≡ (o .low to o .high) ∷ replicate (n - 1) tail
+    go zero f = absurd (f refl)
+    go (suc n) f = let e : n ≡ suc n - 1 = omega arith in ap (λ (k : ℕ). (o .low to o .high) ∷ replicate k tail) e
+
+pub tails-only : (n : ℕ) → ranges n tail ≡ replicate n tail
+tails-only zero = refl
+tails-only (suc n) = refl

@@ -1,0 +1,113 @@
+// UTF-8, a byte at a time (RFC 3629, section 4).
+ghost use mathlib.Core.Path.{_≡_};
+ghost use mathlib.Core.List.{[]};
+ghost use Prim.Native.Nat.{_≤_};
+ghost use Rattle.text_spec.specs.Utf8.{next, begins, textOf};
+ghost use Rattle.text.specs.Owed.{owes, walked};
+ghost use Rattle.text.specs.Answer.{answered};
+
+// What a letter that has begun still owes: so many tails, and the range of the next one.
+pub struct Owed {
+    pub tails: u8,
+    pub low: u8,
+    pub high: u8,
+}
+
+// What a byte leads to.
+pub enum Walked {
+    Next(Owed),
+    Bad,
+}
+
+// No letter begun.
+pub fn fresh() -> Owed
+    ensures { λ r. ⌜ owes r ≡ [] ⌝ }
+{
+    Owed {
+        tails: 0,
+        low: 0x80,
+        high: 0xBF,
+    }
+}
+
+// 1 where the next byte begins a letter.
+pub fn begins(owed: Owed) -> usize
+    ensures { λ r. ⌜ (r ≡ begins (owes owed)) × (r ≤ 1) ⌝ }
+{
+    let tails = owed.tails;
+    if tails == 0 {
+        return 1;
+    }
+    0
+}
+
+pub fn step(owed: Owed, byte: u8) -> Walked
+    ensures { λ r. ⌜ walked r ≡ next (owes owed) byte ⌝ }
+{
+    let tails = owed.tails;
+    if tails == 0 {
+        return lead(byte);
+    }
+    if byte < owed.low {
+        return Walked::Bad;
+    }
+    if owed.high < byte {
+        return Walked::Bad;
+    }
+    Walked::Next(Owed {
+        tails: tails - 1,
+        low: 0x80,
+        high: 0xBF,
+    })
+}
+
+fn lead(byte: u8) -> Walked
+    ensures { λ r. ⌜ walked r ≡ next [] byte ⌝ }
+{
+    match byte {
+        0..=0x7F => begun(0, 0x80, 0xBF),
+        0x80..=0xC1 => Walked::Bad,
+        0xC2..=0xDF => begun(1, 0x80, 0xBF),
+        0xE0 => begun(2, 0xA0, 0xBF),
+        0xED => begun(2, 0x80, 0x9F),
+        0xE1..=0xEF => begun(2, 0x80, 0xBF),
+        0xF0 => begun(3, 0x90, 0xBF),
+        0xF4 => begun(3, 0x80, 0x8F),
+        0xF1..=0xF3 => begun(3, 0x80, 0xBF),
+        _ => Walked::Bad,
+    }
+}
+
+fn begun(tails: u8, low: u8, high: u8) -> Walked
+    ensures { λ r. ⌜ r ≡ Walked.Next (record { tails = tails; low = low; high = high }) ⌝ }
+{
+    Walked::Next(Owed { tails, low, high })
+}
+
+// What a run of bytes is as text: so many characters, or the place of the first byte at which it can no longer be
+// well formed (its end, where it stops inside a letter).
+pub enum Text {
+    Characters(usize),
+    Stops(usize),
+}
+
+pub fn text_of(bytes: &[u8]) -> Text
+    ensures { λ r. ⌜ answered r ≡ textOf (now (bytes .entry)) ⌝ }
+{
+    let mut owed = fresh();
+    let mut characters: usize = 0;
+    let mut at: usize = 0;
+    while at < bytes.len() {
+        characters += begins(owed);
+        match step(owed, bytes[at]) {
+            Walked::Next(next) => owed = next,
+            Walked::Bad => return Text::Stops(at),
+        }
+        at += 1;
+    }
+    let tails = owed.tails;
+    if tails != 0 {
+        return Text::Stops(at);
+    }
+    Text::Characters(characters)
+}

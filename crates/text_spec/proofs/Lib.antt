@@ -1,0 +1,5 @@
+pub mod Rows
+pub mod Table
+pub mod Walks
+pub mod WellFormed
+pub mod TextJoin

@@ -1,0 +1,5 @@
+pub mod Slots
+pub mod TextsSize
+pub mod Kept
+pub mod Whole
+pub mod Answers

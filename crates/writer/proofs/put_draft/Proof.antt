@@ -1,0 +1,191 @@
+use Prim.Native.Nat.{ℕ, _+_, _-_, _≤_, min}
+use mathlib.Core.Path.{_≡_, _∙_, ap}
+use mathlib.Core.List.{List, _++_}
+use native.Mathlib.Omega.{arith}
+use lib.ListN.{length, take, length-append}
+use borrow.Rule.Slice.PartMut.{putMid}
+use denote.Ref.{now}
+use Rattle.base.specs.Arrays.{over}
+use Rattle.base.proofs.Lent.{length-over}
+use Rattle.base.proofs.Written.{wrote-both, lent-fits}
+use Rattle.packet_spec.specs.Limits.{level}
+use Rattle.sender_spec.specs.Limits.{roomSize}
+use Rattle.writer.specs.Draft.{written}
+use Rattle.carrying.specs.Young.{youngRun, textTotal}
+use Rattle.heading.specs.Headers.{frontWith}
+use Rattle.heading.proofs.Headers.{front-over}
+use Rattle.writer.specs.Parts.{textsOf, frontIn, packetWith, packetSize}
+use Rattle.writer.proofs.Whole.{few, front-size, size-is}
+use Rattle.writer.proofs.Answers.{put-nothing, put-short, put-written}
+use borrow.Author.Needs.{needs}
+use Rattle.writer.proofs.put_draft.Statement.{statement}
+use Rattle.writer.proofs.put_draft.Tie as tie
+
+lens-long : (c : tie.Start) → length (c .args .draft .lens) ≡ level
+lens-long c = search needs
+
+ats-long : (c : tie.Start) → length (c .args .draft .ats) ≡ level
+ats-long c = search needs
+
+-- the run is the definition's
+run-is : (c : tie.After-run) → let d = c .before .before .before .before .before .before .args .draft in c .run .result .count ≡ youngRun (d .clock) (take (min (d .level) (d .count)) (d .ats))
+run-is c = let d = c .before .before .before .before .before .before .args .draft in c .run .ensures .0 ∙ ap (λ (m : ℕ). youngRun (d .clock) (take m (d .ats))) (c .before .least .ensures)
+
+-- and so is the length
+size-of : (c : tie.After-size) → let r = c .before .before .before in let d = r .before .before .before .before .before .before .args .draft in
+    c .size .result ≡ packetSize (d .level) (r .run .result .count) (textTotal (take (r .run .result .count) (d .lens))) (min (d .len) roomSize)
+size-of c =
+    let r = c .before .before .before in
+    let d = r .before .before .before .before .before .before .args .draft in
+    c .size .ensures ∙ (λ i. packetSize (d .level) (r .run .result .count) (r .run .ensures .1 i) (c .before .before .least2 .ensures i))
+
+least-requires : tie.Need-least-requires
+least-requires c κs = search needs
+
+run-requires : tie.Need-run-requires
+run-requires c κs = search needs
+
+least-requires-2 : tie.Need-least-requires-2
+least-requires-2 c κs = search needs
+
+add-if1 : tie.Need-add-if1
+add-if1 c = search needs
+
+returns : tie.Need-returns
+returns c =
+    let r = c .before .before in
+    let st = r .before .before .before .before .before .before in
+    let a = st .args in
+    put-nothing (a .draft) (now (a .texts)) (r .run .result .count) (lens-long st) (ats-long st) (st .pre) (run-is r) (now (a .packet))
+    (omega (arith, c .if1 .taken, r .run .ensures .1, c .before .least2 .ensures))
+
+size-requires : tie.Need-size-requires
+size-requires c κs = search needs
+
+returns-2 : tie.Need-returns-2
+returns-2 c =
+    let s = c .before in
+    let r = s .before .before .before in
+    let st = r .before .before .before .before .before .before in
+    let a = st .args in
+    put-short (a .draft) (now (a .texts)) (r .run .result .count) (lens-long st) (ats-long st) (st .pre) (run-is r) (now (a .packet))
+    (omega (arith, s .before .if1 .left, r .run .ensures .1, s .before .before .least2 .ensures)) (omega (arith, c .if2 .taken, size-of s))
+
+abbrev front : tie.Else2 → List ℕ
+front c =
+    let r = c .before .before .before .before in
+    frontWith (frontIn (r .before .before .before .before .before .before .args .draft)) (r .run .result .count)
+
+abbrev body : tie.Else2 → List ℕ
+body c =
+    let r = c .before .before .before .before in
+    let a = r .before .before .before .before .before .before .args in
+    textsOf (now (a .texts)) (a .draft .room) (a .draft .lens) (a .draft .len) (r .run .result .count)
+
+-- the headers, and the texts behind them, fit
+room : (c : tie.Else2) → length (front c) + length (body c) ≤ length (now (c .before .before .before .before .before .before .before .before .before .before .args .packet))
+room c =
+    let s = c .before in
+    let r = s .before .before .before in
+    let st = r .before .before .before .before .before .before in
+    let d = st .args .draft in
+    let n = r .run .result .count in
+    let x = now (st .args .texts) in
+    omega (
+      arith,
+      c .if2 .left,
+      size-of s,
+      front-size d x n (lens-long st) (ats-long st) (st .pre) (run-is r),
+      size-is d x n (lens-long st) (ats-long st) (st .pre) (run-is r),
+    )
+
+-- the headers are written
+fronted : (c : tie.After-put-front) → let e = c .before .before in let a = e .before .before .before .before .before .before .before .before .before .before .args in
+    (c .put-front .result ≡ length (front e)) × (c .put-front .last .0 ≡ over (front e) (now (a .packet)))
+fronted c =
+    let e = c .before .before in
+    let r = e .before .before .before .before in
+    let st = r .before .before .before .before .before .before in
+    let d = st .args .draft in
+    let n = r .run .result .count in
+    front-over (frontIn d) n (c .put-front .result) (now (st .args .packet)) (c .put-front .last .0)
+    (few d (now (st .args .texts)) n (lens-long st) (ats-long st) (st .pre) (run-is r)) (omega (arith, room e)) (c .put-front .ensures)
+
+-- with room for the texts
+space : (c : tie.After-put-front) → c .put-front .result + length (body (c .before .before)) ≤ length (c .put-front .last .0)
+space c =
+    let e = c .before .before in
+    let p = now (e .before .before .before .before .before .before .before .before .before .before .args .packet) in
+    omega (arith, room e, fronted c .0, ap length (fronted c .1), length-over (front e) p (omega (arith, room e)))
+
+put-front-requires : tie.Need-put-front-requires
+put-front-requires c κs = search needs
+
+sub-put-texts : tie.Need-sub-put-texts
+sub-put-texts c = omega (arith, space (c .before .before))
+
+part-put-texts-start : tie.Need-part-put-texts-start
+part-put-texts-start c = omega (arith, space (c .before .before))
+
+part-put-texts-end : tie.Need-part-put-texts-end
+part-put-texts-end c = search needs
+
+put-texts-requires : tie.Need-put-texts-requires
+put-texts-requires c κs =
+    let f = c .before .before .before in
+    let e = f .before .before in
+    let r = e .before .before .before .before in
+    let st = r .before .before .before .before .before .before in
+    let d = st .args .draft in
+    let n = r .run .result .count in
+    let x = now (st .args .texts) in (
+      st .pre,
+      few d x n (lens-long st) (ats-long st) (st .pre) (run-is r),
+      lent-fits (f .put-front .result) (length (body e)) (f .put-front .last .0) (space f),
+    )
+
+whole : (c : tie.After-put-texts) → let f = c .before .before .before .before in let e = f .before .before in let r = e .before .before .before .before in let a = r .before .before .before .before .before .before .args in
+    putMid (f .put-front .result) (length (f .put-front .last .0) - f .put-front .result) (f .put-front .last .0) (c .put-texts .last .0)
+    ≡ over (packetWith (a .draft) (now (a .texts)) (r .run .result .count)) (now (a .packet))
+whole c =
+    let f = c .before .before .before .before in
+    let p = f .put-front in
+    let e = f .before .before in
+    let a = e .before .before .before .before .before .before .before .before .before .before .args in
+    wrote-both (front e) (body e) (now (a .packet)) (p .last .0) (c .put-texts .last .0) (p .result) (fronted f .0) (fronted f .1) (room e) (c .put-texts .ensures)
+
+same-length : tie.Need-same-length
+same-length c =
+    let e = c .before .before .before .before .before .before .before .before in
+    let a = e .before .before .before .before .before .before .before .before .before .before .args in
+    ap length (whole (c .before .before)) ∙ length-over (front e ++ body e) (now (a .packet)) (omega (arith, room e, length-append (front e) (body e)))
+
+returns-3 : tie.Need-returns-3
+returns-3 c =
+    let e = c .before .before .before .before .before .before .before .before in
+    let s = e .before in
+    let r = s .before .before .before in
+    let st = r .before .before .before .before .before .before in
+    let a = st .args in
+    (λ i. record { answer = written (size-of s i); lent = whole (c .before .before) i })
+    ∙ put-written (a .draft) (now (a .texts)) (r .run .result .count) (lens-long st) (ats-long st) (st .pre) (run-is r) (now (a .packet))
+    (omega (arith, s .before .if1 .left, r .run .ensures .1, s .before .before .least2 .ensures)) (omega (arith, e .if2 .left, size-of s))
+
+pub put-draft-spec : {M : Type 1} → statement M
+put-draft-spec =
+    tie.close
+    (tie.spec
+    least-requires
+    run-requires
+    least-requires-2
+    add-if1
+    returns
+    size-requires
+    returns-2
+    put-front-requires
+    sub-put-texts
+    part-put-texts-start
+    part-put-texts-end
+    put-texts-requires
+    same-length
+    returns-3)

@@ -1,0 +1,45 @@
+-- What the parts of a packet come to, by the lengths and times of the blocks kept, newest first.
+use Prim.Native.Nat.{ℕ, suc, _+_, _*_}
+use mathlib.Core.List.{List, _++_}
+use mathlib.Core.Bool.{cond}
+use lib.Dec.{eqb}
+use lib.ListN.{getD}
+use Rattle.writer.specs.declared.Draft.{Draft}
+use Rattle.heading.specs.declared.Front.{Front}
+use Rattle.heading.specs.LastFirst.{lastFirst}
+use Rattle.heading.specs.Headers.{frontWith}
+use Rattle.slots.specs.Slots.{slotOf, textIn}
+
+abbrev pub textAt : List ℕ → ℕ → List ℕ → ℕ → List ℕ
+textAt texts room lens i = textIn texts (slotOf room (suc i)) (getD lens i 0)
+
+-- what waits, no packet back
+abbrev pub waitingAt : List ℕ → ℕ → ℕ → List ℕ
+waitingAt texts room len = textIn texts (slotOf room 0) len
+
+-- the texts of the first n blocks, oldest first, and what waits
+abbrev pub textsOf : List ℕ → ℕ → List ℕ → ℕ → ℕ → List ℕ
+textsOf texts room lens len n = lastFirst (textAt texts room lens) (waitingAt texts room len) n
+
+-- what the headers are written from
+abbrev pub frontIn : Draft → Front
+frontIn d = record {
+  level = d .level;
+  t140 = d .t140;
+  red = d .red;
+  marker = d .marker;
+  sequence = d .sequence;
+  timestamp = d .timestamp;
+  source = d .source;
+  clock = d .clock;
+  lens = d .lens;
+  ats = d .ats;
+}
+
+-- a packet that repeats n blocks
+abbrev pub packetWith : Draft → List ℕ → ℕ → List ℕ
+packetWith d texts n = frontWith (frontIn d) n ++ textsOf texts (d .room) (d .lens) (d .len) n
+
+-- its length, by the bytes of its older texts and of its primary
+abbrev pub packetSize : ℕ → ℕ → ℕ → ℕ → ℕ
+packetSize R n older primary = cond (eqb R 0) (12 + primary) (12 + (4 * n + 1 + (older + primary)))

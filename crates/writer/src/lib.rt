@@ -1,0 +1,99 @@
+// Writes a packet from a draft and the lent texts: each part fills the front of the space that it is lent, and the rest of the
+// space stays.
+mod writing;
+
+ghost use mathlib.Core.Path.{_≡_};
+ghost use Prim.Native.Nat.{_*_, _≤_};
+ghost use lib.ListN.{length};
+ghost use Rattle.packet_spec.specs.Limits.{level};
+ghost use Rattle.sender_spec.specs.Limits.{roomSize};
+ghost use Rattle.writer.specs.Draft.{answered, putOf};
+ghost use Rattle.slots.specs.Slots.{textsSize};
+ghost use Rattle.writer.specs.Parts.{packetSize};
+use heading::Front;
+use packet::Packet;
+use slots::Texts;
+
+// What a packet is written from: the header's values; the blocks kept, newest first, by their lengths and times, of which the
+// first `count` count; the slot of what waits, and its length. The blocks' texts lie in the slots before it, in a circle.
+pub struct Draft {
+    pub level: usize,
+    pub t140: u8,
+    pub red: u8,
+    pub marker: bool,
+    pub sequence: u16,
+    pub timestamp: u32,
+    pub source: u32,
+    pub clock: u64,
+    pub lens: [usize; Packet::LEVEL],
+    pub ats: [u64; Packet::LEVEL],
+    pub count: usize,
+    pub room: usize,
+    pub len: usize,
+}
+
+// Nothing to send; the space is too short; or the packet's length.
+pub enum Put {
+    Nothing,
+    Short,
+    Written(usize),
+}
+
+// Writes the packet to the front of the space, where there is something to send and the space holds it.
+pub fn put_packet(packet: &mut [u8], texts: &[u8; Texts::SIZE], draft: Draft) -> Put
+    ensures { λ r. ⌜ record { answer = answered r; lent = now (packet .exit) } ≡ putOf draft (now (texts .entry)) (now (packet .entry)) ⌝ }
+{
+    put_draft(packet, texts, draft)
+}
+
+fn put_draft(packet: &mut [u8], texts: &[u8], draft: Draft) -> Put
+    requires { ⌜ length (now texts) ≡ textsSize ⌝ }
+    ensures { λ r. ⌜ record { answer = answered r; lent = now (packet .exit) } ≡ putOf draft (now (texts .entry)) (now (packet .entry)) ⌝ }
+{
+    let lens = draft.lens;
+    let ats = draft.ats;
+    let most = numbers::least(draft.level, draft.count);
+    let carried = carrying::run(lens, ats, most, draft.clock);
+    let older = carried.text;
+    let primary = numbers::least(draft.len, Texts::ROOM);
+    if older + primary == 0 {
+        return Put::Nothing;
+    }
+    let size = size(draft.level, carried.count, older, primary);
+    if packet.len() < size {
+        return Put::Short;
+    }
+    let front = Front {
+        level: draft.level,
+        t140: draft.t140,
+        red: draft.red,
+        marker: draft.marker,
+        sequence: draft.sequence,
+        timestamp: draft.timestamp,
+        source: draft.source,
+        clock: draft.clock,
+        lens,
+        ats,
+    };
+    let at = heading::put_front(packet, front, carried.count);
+    writing::put_texts(
+        &mut packet[at..],
+        texts,
+        draft.room,
+        lens,
+        draft.len,
+        carried.count,
+    );
+    Put::Written(size)
+}
+
+// The length of a packet with `count` older blocks of `older` bytes together, and a primary of `primary` bytes.
+fn size(repeats: usize, count: usize, older: usize, primary: usize) -> usize
+    requires { ⌜ (count ≤ level) × (older ≤ roomSize * level) × (primary ≤ roomSize) ⌝ }
+    ensures { λ r. ⌜ r ≡ packetSize repeats count older primary ⌝ }
+{
+    if repeats == 0 {
+        return 12 + primary;
+    }
+    12 + (4 * count + 1 + (older + primary))
+}

@@ -1,0 +1,60 @@
+// Writes the texts of a packet.
+ghost use mathlib.Core.Path.{_≡_};
+ghost use Prim.Native.Nat.{_≤_, _<_};
+ghost use lib.ListN.{length};
+ghost use Rattle.base.specs.Arrays.{over};
+ghost use Rattle.packet_spec.specs.Limits.{level};
+ghost use Rattle.slots.specs.Slots.{slots, slotOf, textIn, textsSize};
+ghost use Rattle.writer.specs.Parts.{textsOf};
+use packet::Packet;
+use slots::Texts;
+
+// The slot so many packets back.
+fn slot(room: usize, back: usize) -> usize
+    requires { ⌜ back ≤ slots ⌝ }
+    ensures { λ r. ⌜ (r ≡ slotOf room back) × (r < slots) ⌝ }
+{
+    let room = slots::room_of(room);
+    if back <= room {
+        return room - back;
+    }
+    room + Texts::SLOTS - back
+}
+
+// The text of so many packets back, or with 0 what waits; its length.
+fn put_text(to: &mut [u8], texts: &[u8], room: usize, back: usize, len: usize) -> usize
+    requires { ⌜ (length (now texts) ≡ textsSize) × (back ≤ slots) × (length (textIn (now texts) (slotOf room back) len) ≤ length (now to)) ⌝ }
+    ensures { λ r. ⌜ (r ≡ length (textIn (now (texts .entry)) (slotOf room back) len)) × (now (to .exit) ≡ over (textIn (now (texts .entry)) (slotOf room back) len) (now (to .entry))) ⌝ }
+{
+    let size = numbers::least(len, Texts::ROOM);
+    let from = slot(room, back) * Texts::ROOM;
+    let end = from + size;
+    bytes::copy(&texts[from..end], to);
+    size
+}
+
+// The texts of the first `count` blocks, the last of them first, and what waits.
+pub fn put_texts(
+    to: &mut [u8],
+    texts: &[u8],
+    room: usize,
+    lens: [usize; Packet::LEVEL],
+    len: usize,
+    count: usize,
+)
+    requires { ⌜ (length (now texts) ≡ textsSize) × (count ≤ level) × (length (textsOf (now texts) room lens len count) ≤ length (now to)) ⌝ }
+    ensures { λ _. ⌜ now (to .exit) ≡ over (textsOf (now (texts .entry)) room lens len count) (now (to .entry)) ⌝ }
+{
+    let mut i = Packet::LEVEL;
+    let mut at = 0;
+    while 0 < i {
+        let back = i;
+        i -= 1;
+        if count <= i {
+            continue;
+        }
+        let n = lens[i];
+        at += put_text(&mut to[at..], texts, room, back, n);
+    }
+    put_text(&mut to[at..], texts, room, 0, len);
+}
