@@ -63,8 +63,8 @@ fn answer_of(put: Put) -> Answer
     }
 }
 
-// Writes the packet where one is due, by whether text waits and its length. It is called from two places, so that it stays a
-// function of its own, and a quiet call does not pay for it.
+// Writes the packet where one is due, by whether text waits and its length. It is called from two places, so that the
+// compiler leaves it a function of its own.
 fn put_due(
     sender: Sender,
     waits: bool,
