@@ -4,6 +4,7 @@ use std::time::{Duration, Instant};
 
 use crate::contest::{add, contest, timed, Run};
 use crate::schedule::{Event, Schedule};
+use compare::calls::library_settings;
 use compare::say;
 use independent::sender::{Clocked, Sender, Settings};
 use stewpigeon::lent;
@@ -30,16 +31,7 @@ struct Proved {
 }
 
 fn proved_open(level: usize) -> Proved {
-    let settings = settings(level);
-    let settings = lent::Settings {
-        level: settings.level,
-        buffering: settings.buffering,
-        t140: settings.t140,
-        red: settings.red,
-        sequence: settings.sequence,
-        timestamp: settings.timestamp,
-        source: settings.source,
-    };
+    let settings = library_settings(&settings(level));
     let mut sender = Proved {
         record: lent::Sender::ZERO,
         texts: [0; 800],

@@ -12,6 +12,8 @@ mod rules;
 mod senders;
 pub mod tally;
 
+pub use senders::library_settings;
+
 use crate::random::Random;
 use tally::Tally;
 
