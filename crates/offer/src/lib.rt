@@ -12,6 +12,7 @@ use packet::Outcome;
 use packet::Refusal;
 use settings::Settings;
 use slots::Texts;
+use slots::Waiting;
 use text::Text;
 
 fn is_text(bytes: &[u8]) -> bool
@@ -34,14 +35,13 @@ fn put(texts: &mut [u8], at: usize, text: &[u8])
 fn judge_in(
     settings: Settings,
     latest: u64,
-    room: usize,
-    len: usize,
+    waiting: Waiting,
     clock: u64,
     text: &[u8],
     texts: &mut [u8],
 ) -> Outcome
     requires { ⌜ length (now texts) ≡ textsSize ⌝ }
-    ensures { λ r. ⌜ Judges settings latest room len clock (now (text .entry)) (now (texts .entry)) r (now (texts .exit)) ⌝ }
+    ensures { λ r. ⌜ Judges settings latest (waiting .room) (waiting .len) clock (now (text .entry)) (now (texts .entry)) r (now (texts .exit)) ⌝ }
 {
     let outcome = settings::settings_outcome(settings);
     match outcome {
@@ -57,28 +57,27 @@ fn judge_in(
     if !is_text(text) {
         return Outcome::Refused(Refusal::Text);
     }
-    let len = least(len, Texts::ROOM);
+    let len = least(waiting.len, Texts::ROOM);
     if Texts::ROOM < len + text.len() {
         return Outcome::Refused(Refusal::WaitingRoom);
     }
-    let room = slots::room_of(room);
+    let room = slots::room_of(waiting.room);
     let at = room * Texts::ROOM + len;
     put(texts, at, text);
     Outcome::Accepted
 }
 
-// Judges an offer to a sender with these settings, the latest accepted clock, and `len` bytes that wait in the slot `room`;
-// where it is accepted, its text is written behind what waits.
+// Judges an offer to a sender with these settings, this latest accepted clock and what waits; where it is accepted, its text is
+// written behind what waits.
 pub fn judge(
     settings: Settings,
     latest: u64,
-    room: usize,
-    len: usize,
+    waiting: Waiting,
     clock: u64,
     text: &[u8],
     texts: &mut [u8; Texts::SIZE],
 ) -> Outcome
-    ensures { λ r. ⌜ Judges settings latest room len clock (now (text .entry)) (now (texts .entry)) r (now (texts .exit)) ⌝ }
+    ensures { λ r. ⌜ Judges settings latest (waiting .room) (waiting .len) clock (now (text .entry)) (now (texts .entry)) r (now (texts .exit)) ⌝ }
 {
-    judge_in(settings, latest, room, len, clock, text, texts)
+    judge_in(settings, latest, waiting, clock, text, texts)
 }

@@ -1,76 +1,115 @@
--- The clock call's answer, by what became of the draft.
-use Prim.Native.Nat.{ℕ, _-_, _≤_}
+-- The clock call's answer, by its judgement and by what became of the draft.
+use Prim.Native.Nat.{ℕ}
 use mathlib.Core.Path.{_≡_, _∙_, refl, ap, sym}
-use mathlib.Core.List.{List}
+use mathlib.Core.List.{List, [], _∷_}
 use mathlib.Core.Bool.{Bool, true, false, cond, not, _||_, _&&_}
-use lib.Dec.{ltb, leb}
+use lib.Dec.{ltb, eqb, T as Holds}
 use lib.ListN.{length}
-use borrow.Author.Tests.{ltb-true, ltb-false}
+use native.Mathlib.Omega.{arith}
+use borrow.Author.Tests.{eqb-true}
 use Rattle.sender.specs.declared.Sender.{Sender}
-use Rattle.writer.specs.declared.Put.{Put}
-use Rattle.writer.specs.declared.Put.the-variants.{Nothing, Short, Written}
+use Rattle.writer.specs.declared.Answer.{Answer}
+use Rattle.writer.specs.declared.Answer.the-variants.{Refused, Quiet, Sent}
 use Rattle.base.specs.Arrays.{over}
+use Rattle.base.specs.Checks.{checked}
 use Rattle.sender_spec.specs.State as State
 use Rattle.sender_spec.specs.State.{hasText}
 use Rattle.sender_spec.specs.Settings.{settingsNumber}
 use Rattle.sender_spec.specs.Answers.{Answered, refused, quiet, sent, ClockResult}
-use Rattle.sender_spec.specs.Packets.{carried, anyText, due, packetBytes, afterPacket}
-use Rattle.sender_spec.specs.Clocking.{senderAt, clockOf}
-use Rattle.sender_spec.proofs.Calls.{clock-quiet, clock-8, clock-sent}
-use Rattle.writer.specs.Draft.{nothing, short, written, putOf}
+use Rattle.sender_spec.specs.Packets.{carried, anyText, readyAt, packetBytes, afterPacket}
+use Rattle.sender_spec.specs.Clocking.{senderAt, clockRefused, clockQuiet, clockSent, spaceChecks, clockOf}
+use Rattle.settings.specs.State.{settingsOf}
+use Rattle.settings.specs.declared.Judged.{Judged}
+use Rattle.settings.specs.declared.Judged.the-variants as Judgements
+use Rattle.settings.specs.Judging as Judging
+use Rattle.settings.specs.Judging.{Judgement, refuses, judged, isQuiet, judgementOf}
 use Rattle.slots.specs.Slots.{textsSize}
 use Rattle.writer.specs.Draft as Draft
-use Rattle.settings.specs.State.{settingsOf}
+use Rattle.writer.specs.Draft.{answered, putOf}
 use Rattle.sender.specs.State.{stateOf}
-use Rattle.sender.specs.Clocking.{answered, draftOf, answerOf, recordBehind, Clocks}
+use Rattle.sender.specs.Clocking.{judgementAt, draftOf, recordBehind, Clocks}
 use Rattle.sender.proofs.Behind.{after-is}
 use Rattle.sender.proofs.Drafted.{packet-is}
 
-abbrev answerFor : Draft.Answer → Answered
-answerFor nothing = quiet
-answerFor short = refused 8
-answerFor (written n) = sent n
+-- 01's result goes by the judgement
+module _ (s : State.Sender) (t : ℕ) (p : List ℕ) where
+  abbrev hasSome : Bool
+  hasSome = hasText (s .waiting) || anyText (carried s t)
 
-abbrev senderFor : Draft.Answer → State.Sender → ℕ → State.Sender
-senderFor nothing s t = senderAt s t
-senderFor short s t = s
-senderFor (written n) s t = afterPacket s t
+  abbrev pub resultBy : Judgement → ClockResult
+  resultBy (refuses n) = clockRefused s p n
+  resultBy Judging.quiet = clockQuiet s t p
+  resultBy Judging.ready = cond hasSome (checked (clockRefused s p) (spaceChecks s t p) (clockSent s t p)) (clockQuiet s t p)
 
-module _ (s : Sender) (texts : List ℕ) (t : ℕ) (p : List ℕ) (size : length texts ≡ textsSize) where
+  pub by-judgement : clockOf s t p ≡ resultBy (judgementOf (s .settings) (s .clock) (s .progress) t)
+  unfolding clockOf
+  by-judgement = go (not (eqb (settingsNumber (s .settings)) 0)) (ltb t (s .clock)) (readyAt (s .settings .buffering) (s .progress) t)
+    where
+      go : (a b c : Bool)
+          → cond a (clockRefused s p (settingsNumber (s .settings)))
+          (cond b (clockRefused s p 5) (cond (c && hasSome) (checked (clockRefused s p) (spaceChecks s t p) (clockSent s t p)) (clockQuiet s t p)))
+          ≡ resultBy (cond a (refuses (settingsNumber (s .settings))) (cond b (refuses 5) (cond c Judging.ready Judging.quiet)))
+      go true b c = refl
+      go false true c = refl
+      go false false true = refl
+      go false false false = refl
+
+  -- what is ready passed the settings
+  pub ready-passed : Judging.ready ≡ judgementOf (s .settings) (s .clock) (s .progress) t → settingsNumber (s .settings) ≡ 0
+  ready-passed e = go (eqb (settingsNumber (s .settings)) 0) refl _ e
+    where
+      refusing : Judgement → ℕ
+      refusing (refuses n) = 1
+      refusing Judging.quiet = 0
+      refusing Judging.ready = 0
+
+      go : (b : Bool) → eqb (settingsNumber (s .settings)) 0 ≡ b → (j : Judgement) → Judging.ready ≡ cond (not b) (refuses (settingsNumber (s .settings))) j → settingsNumber (s .settings) ≡ 0
+      go true q j e = eqb-true (settingsNumber (s .settings)) 0 q
+      go false q j e = absurd (let z : 0 ≡ 1 = ap refusing e in omega arith)
+
+abbrev senderFor : Answered → State.Sender → ℕ → State.Sender
+senderFor (refused n) s t = s
+senderFor quiet s t = senderAt s t
+senderFor (sent n) s t = afterPacket s t
+
+module _ (s : Sender) (texts : List ℕ) (t : ℕ) (p : List ℕ) where
+  abbrev state : State.Sender
+  state = stateOf s texts
+
+  -- a call that is judged quiet
+  pub quiet-is : (j : Judged) → Holds (isQuiet j) → judged j ≡ judgementAt s t → Clocks s texts t p Quiet (recordBehind Quiet s t) p
+  quiet-is (Judgements.Refused r) h e = absurd h
+  quiet-is Judgements.Quiet h e = record { result = ap (resultBy state t p) e ∙ sym (by-judgement state t p); fields = refl }
+  quiet-is Judgements.Ready h e = absurd h
+
   abbrev turned : Draft.Result → ClockResult
-  turned r = record { answer = answerFor (r .answer); sender = senderFor (r .answer) (stateOf s texts) t; lent = r .lent }
+  turned r = record { answer = r .answer; sender = senderFor (r .answer) state t; lent = r .lent }
 
-  module _ (ok : settingsNumber (settingsOf (s .settings)) ≡ 0) (later : s .clock ≤ t) (ready : (not (s .progress .sent) || leb (s .settings .buffering) (t - s .progress .last)) ≡ true) where
-    turned-is : turned (putOf (draftOf s (hasText (stateOf s texts .waiting)) t) texts p) ≡ clockOf (stateOf s texts) t p
+  module _ (size : length texts ≡ textsSize) (ready : Judging.ready ≡ judgementOf (state .settings) (state .clock) (state .progress) t) where
+    turned-is : turned (putOf (draftOf s t) texts p) ≡ clockOf state t p
     unfolding putOf
     turned-is =
         ap (λ (q : List ℕ). turned
-        (cond some (cond (ltb (length p) (length q)) (record { answer = short; lent = p }) (record { answer = written (length q); lent = over q p }))
-        (record { answer = nothing; lent = p }))) (packet-is s texts t ok)
-        ∙ go some refl (ltb (length p) (length (packetBytes state t))) refl
+        (cond some (cond (ltb (length p) (length q)) (record { answer = refused 8; lent = p }) (record { answer = sent (length q); lent = over q p }))
+        (record { answer = quiet; lent = p }))) (packet-is s texts t size (ready-passed state t p ready))
+        ∙ go some (ltb (length p) (length (packetBytes state t))) ∙ sym (by-judgement state t p ∙ ap (resultBy state t p) (sym ready))
       where
-        state : State.Sender
-        state = stateOf s texts
-
         some : Bool
-        some = hasText (state .waiting) || anyText (carried state t)
+        some = hasSome state t p
 
-        whether : (b : Bool) → some ≡ b → due state t ≡ b
-        whether b e = ap (λ (r : Bool). r && some) ready ∙ e
-
-        go : (b : Bool) → some ≡ b → (c : Bool) → ltb (length p) (length (packetBytes state t)) ≡ c
+        go : (b c : Bool)
             → turned
-            (cond b (cond c (record { answer = short; lent = p }) (record { answer = written (length (packetBytes state t)); lent = over (packetBytes state t) p }))
-            (record { answer = nothing; lent = p }))
-            ≡ clockOf state t p
-        go false e c f = sym (clock-quiet state t p 0 (sym ok) refl later (whether false e))
-        go true e true f = sym (clock-8 state t p 0 (sym ok) refl later (whether true e) (ltb-true (length p) (length (packetBytes state t)) f))
-        go true e false f = sym (clock-sent state t p 0 (sym ok) refl later (whether true e) (ltb-false (length p) (length (packetBytes state t)) f))
+            (cond b (cond c (record { answer = refused 8; lent = p }) (record { answer = sent (length (packetBytes state t)); lent = over (packetBytes state t) p }))
+            (record { answer = quiet; lent = p }))
+            ≡ cond b (cond c (clockRefused state p 8) (clockSent state t p)) (clockQuiet state t p)
+        go true true = refl
+        go true false = refl
+        go false c = refl
 
-    pub answered-is : (put : Put) (p' : List ℕ) → record { answer = Draft.answered put; lent = p' } ≡ putOf (draftOf s (hasText (stateOf s texts .waiting)) t) texts p → Clocks s texts t p (answerOf put) (recordBehind (answerOf put) s t) p'
-    answered-is put p' e = record { result = behind put ∙ ap turned e ∙ turned-is; fields = refl }
+    pub answered-is : (r : Answer) (p' : List ℕ) → record { answer = answered r; lent = p' } ≡ putOf (draftOf s t) texts p → Clocks s texts t p r (recordBehind r s t) p'
+    answered-is r p' e = record { result = behind r ∙ ap turned e ∙ turned-is; fields = refl }
       where
-        behind : (put : Put) → record { answer = answered (answerOf put); sender = stateOf (recordBehind (answerOf put) s t) texts; lent = p' } ≡ turned (record { answer = Draft.answered put; lent = p' })
-        behind Nothing = refl
-        behind Short = refl
-        behind (Written n) = ap (λ (x : State.Sender). record { answer = sent n; sender = x; lent = p' }) (after-is s texts t size)
+        behind : (r : Answer) → record { answer = answered r; sender = stateOf (recordBehind r s t) texts; lent = p' } ≡ turned (record { answer = answered r; lent = p' })
+        behind (Refused q) = refl
+        behind Quiet = refl
+        behind (Sent n) = ap (λ (x : State.Sender). record { answer = sent n; sender = x; lent = p' }) (after-is s texts t size)

@@ -16,8 +16,8 @@ use Rattle.sender.proofs.Ring.{kept-on}
 
 pub after-is : (s : Sender) (texts : List ℕ) (t : ℕ) → length texts ≡ textsSize → stateOf (recordAfter s t) texts ≡ afterPacket (stateOf s texts) t
 after-is s texts t size =
-    let kept = kept-on texts (s .room) (s .len) t (s .count) (s .lens) (s .ats) in
-    let time = ap (λ (b : Bool). cond b t (s .progress .«last_text»)) (sym (waiting-some texts size (s .room) (s .len))) in
+    let kept = kept-on texts (s .waiting .room) (s .waiting .len) t (s .kept .count) (s .kept .lens) (s .kept .ats) in
+    let time = ap (λ (b : Bool). cond b t (s .progress .«last_text»)) (sym (waiting-some texts size (s .waiting .room) (s .waiting .len))) in
     λ i. record {
       settings = settingsOf (s .settings);
       clock = t;

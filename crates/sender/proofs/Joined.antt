@@ -31,29 +31,29 @@ use Rattle.sender.specs.State.{stateOf}
 use Rattle.sender.specs.Offering.{recordWith, recordBy, Offers}
 
 -- text joins what waits, in its slot; the blocks kept stay
-module _ (s : Sender) (texts x : List ℕ) (size : length texts ≡ textsSize) (fits : min (s .len) roomSize + length x ≤ roomSize) where
+module _ (s : Sender) (texts x : List ℕ) (size : length texts ≡ textsSize) (fits : min (s .waiting .len) roomSize + length x ≤ roomSize) where
   abbrev after : List ℕ
-  after = textsWith (s .room) (s .len) x texts
+  after = textsWith (s .waiting .room) (s .waiting .len) x texts
 
-  blocks : (back : ℕ) (lens ats : List ℕ) → 1 ≤ back → back + length lens ≤ slots → blocksFrom after (s .room) back lens ats ≡ blocksFrom texts (s .room) back lens ats
+  blocks : (back : ℕ) (lens ats : List ℕ) → 1 ≤ back → back + length lens ≤ slots → blocksFrom after (s .waiting .room) back lens ats ≡ blocksFrom texts (s .waiting .room) back lens ats
   blocks back [] ats h k = refl
   blocks back (n ∷ lens) [] h k = refl
   blocks back (n ∷ lens) (t ∷ ats) h k =
-      let e = other-stays (s .room) (s .len) texts x size fits (slotOf (s .room) back) n (omega arith) (slot-other (s .room) (s .len) texts x size fits back h (omega arith)) in
+      let e = other-stays (s .waiting .room) (s .waiting .len) texts x size fits (slotOf (s .waiting .room) back) n (omega arith) (slot-other (s .waiting .room) (s .waiting .len) texts x size fits back h (omega arith)) in
       let f = blocks (suc back) lens ats (omega arith) (omega arith) in
       λ i. record { text = e i; at = t } ∷ f i
 
-  joined-is : (t : ℕ) → 1 + length (s .lens) ≤ slots → stateOf (recordWith s t (length x)) after ≡ senderWith (stateOf s texts) t x
+  joined-is : (t : ℕ) → 1 + length (s .kept .lens) ≤ slots → stateOf (recordWith s t (length x)) after ≡ senderWith (stateOf s texts) t x
   joined-is t few =
-      let w = waiting-joined (s .room) (s .len) texts x size fits in
-      let b = blocks 1 (s .lens) (s .ats) (omega arith) few in
-      let since = ap (λ (b : Bool). cond b (s .since) t) (sym (waiting-some texts size (s .room) (s .len))) in
+      let w = waiting-joined (s .waiting .room) (s .waiting .len) texts x size fits in
+      let b = blocks 1 (s .kept .lens) (s .kept .ats) (omega arith) few in
+      let since = ap (λ (b : Bool). cond b (s .waiting .since) t) (sym (waiting-some texts size (s .waiting .room) (s .waiting .len))) in
       λ i. record {
         settings = settingsOf (s .settings);
         clock = t;
         waiting = w i;
         since = since i;
-        kept = take (s .count) (b i);
+        kept = take (s .kept .count) (b i);
         progress = progressOf (s .progress);
       }
 
@@ -77,7 +77,7 @@ offer-passed s t x e =
     let room : length (s .waiting) + length x ≤ roomSize = ltb-false roomSize (length (s .waiting) + length x) (h .1 .1 .1 .0) in
     (room, offer-joined s t x 0 (sym (p .0)) refl (ltb-false t (s .clock) (h .0)) (eqb-false (length x) 0 (h .1 .0)) (not-false (isText x) (h .1 .1 .0)) room)
 
-module _ (s : Sender) (texts : List ℕ) (t : ℕ) (x : List ℕ) (few : 1 + length (s .lens) ≤ slots) where
+module _ (s : Sender) (texts : List ℕ) (t : ℕ) (x : List ℕ) (few : 1 + length (s .kept .lens) ≤ slots) where
   abbrev state : State.Sender
   state = stateOf s texts
 
@@ -92,10 +92,10 @@ module _ (s : Sender) (texts : List ℕ) (t : ℕ) (x : List ℕ) (few : 1 + len
   unfolding offerOf
   refused-is n k e = refused-by (offerRefused state) (offerChecks state t x) (record { number = 0; sender = senderWith state t x }) n k e
 
-  pub offers-by : (r : Outcome) (texts' : List ℕ) → Judges (s .settings) (s .clock) (s .room) (s .len) t x texts r texts' → Offers s texts t x r (recordBy r s t (length x)) texts'
+  pub offers-by : (r : Outcome) (texts' : List ℕ) → Judges (s .settings) (s .clock) (s .waiting .room) (s .waiting .len) t x texts r texts' → Offers s texts t x r (recordBy r s t (length x)) texts'
   offers-by Accepted texts' j =
       let p = offer-passed state t x (first 0 (j .number)) in
-      let fits : min (s .len) roomSize + length x ≤ roomSize = omega (arith, p .0, waiting-length texts (j .whole) (s .room) (s .len)) in
+      let fits : min (s .waiting .len) roomSize + length x ≤ roomSize = omega (arith, p .0, waiting-length texts (j .whole) (s .waiting .room) (s .waiting .len)) in
       record {
         result = ap (λ (l : List ℕ). record { number = 0; sender = stateOf (recordWith s t (length x)) l }) (j .bytes)
             ∙ ap (λ (a : State.Sender). record { number = 0; sender = a }) (joined-is s texts x (j .whole) fits t few) ∙ sym (p .1);

@@ -1,16 +1,15 @@
 -- What offering text answers.
-use Prim.Native.Nat.{ℕ, _+_, min}
+use Prim.Native.Nat.{ℕ}
 use mathlib.Core.Path.{_≡_}
 use mathlib.Core.List.{List}
-use mathlib.Core.Bool.{Bool, true, false, cond}
-use lib.Dec.{ltb}
+use mathlib.Core.Bool.{Bool, true, false}
 use lib.ListN.{length}
 use Rattle.sender.specs.declared.Sender.{Sender}
 use Rattle.packet.specs.declared.Outcome.{Outcome}
 use Rattle.packet.specs.declared.Outcome.the-variants.{Accepted, Refused}
 use Rattle.packet.specs.Refusal.{outcomeNumber}
-use Rattle.sender_spec.specs.Limits.{roomSize}
 use Rattle.sender_spec.specs.Offering.{offerOf}
+use Rattle.slots.specs.Held.{joinedOf}
 use Rattle.offer.specs.Offer.{textsBy}
 use Rattle.sender.specs.State.{stateOf}
 
@@ -19,12 +18,8 @@ abbrev pub recordWith : Sender → ℕ → ℕ → Sender
 recordWith s t n = record {
   settings = s .settings;
   clock = t;
-  room = s .room;
-  len = min (s .len) roomSize + n;
-  since = cond (ltb 0 (s .len)) (s .since) t;
-  lens = s .lens;
-  ats = s .ats;
-  count = s .count;
+  waiting = joinedOf (s .waiting) t n;
+  kept = s .kept;
   progress = s .progress;
 }
 
@@ -36,7 +31,7 @@ recordBy (Refused r) s t n = s
 pub record Offers (s : Sender) (texts : List ℕ) (t : ℕ) (x : List ℕ) (r : Outcome) (s' : Sender) (texts' : List ℕ) : Type 0 where
   pub result : record { number = outcomeNumber r; sender = stateOf s' texts' } ≡ offerOf (stateOf s texts) t x
   pub fields : s' ≡ recordBy r s t (length x)
-  pub bytes : texts' ≡ textsBy r (s .room) (s .len) x texts
+  pub bytes : texts' ≡ textsBy r (s .waiting .room) (s .waiting .len) x texts
 
 -- whether an offer is refused
 abbrev pub isRefused : Outcome → Bool

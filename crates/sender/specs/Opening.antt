@@ -20,12 +20,8 @@ abbrev pub freshOf : Settings → Sender
 freshOf s = record {
   settings = s;
   clock = 0;
-  room = 0;
-  len = 0;
-  since = 0;
-  lens = replicate level 0;
-  ats = replicate level 0;
-  count = 0;
+  waiting = record { room = 0; len = 0; since = 0 };
+  kept = record { lens = replicate level 0; ats = replicate level 0; count = 0 };
   progress = record { sent = false; last = 0; «last_text» = 0; next = s .sequence };
 }
 

@@ -7,13 +7,13 @@ use Rattle.settings.specs.State.{settingsOf, progressOf}
 use Rattle.slots.specs.Slots.{waitingIn}
 use Rattle.writer.specs.Draft.{keptIn}
 
--- what waits lies in the slot `room`, and the blocks kept in those before it, in a circle
+-- what waits lies in its slot, and the blocks kept in those before it, in a circle
 abbrev pub stateOf : Sender → List ℕ → State.Sender
 stateOf s texts = record {
   settings = settingsOf (s .settings);
   clock = s .clock;
-  waiting = waitingIn texts (s .room) (s .len);
-  since = s .since;
-  kept = keptIn texts (s .room) (s .lens) (s .ats) (s .count);
+  waiting = waitingIn texts (s .waiting .room) (s .waiting .len);
+  since = s .waiting .since;
+  kept = keptIn texts (s .waiting .room) (s .kept .lens) (s .kept .ats) (s .kept .count);
   progress = progressOf (s .progress);
 }

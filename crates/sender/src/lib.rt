@@ -10,24 +10,21 @@ ghost use Rattle.sender.specs.Clocking.{Clocks};
 use carrying::Block;
 use packet::Outcome;
 use packet::Packet;
-use packet::Refusal;
 use settings::Progress;
 use settings::Settings;
+use slots::Kept;
 use slots::Texts;
+use slots::Waiting;
+use writer::Answer;
 
-// A sender: the latest accepted clock; the slot of what waits, its length, and when its first byte was offered; the lengths and
-// times of the last blocks sent, newest first, of which the first `count` count. The blocks' texts lie in the slots before
-// that of what waits, in a circle.
+// A sender: its settings, the latest accepted clock, what waits, the last blocks sent, and how far it has come. The blocks' texts
+// lie in the slots before that of what waits, in a circle.
 #[repr(C)]
 pub struct Sender {
     pub settings: Settings,
     pub clock: u64,
-    pub room: usize,
-    pub len: usize,
-    pub since: u64,
-    pub lens: [usize; Sender::LEVEL],
-    pub ats: [u64; Sender::LEVEL],
-    pub count: usize,
+    pub waiting: Waiting,
+    pub kept: Kept,
     pub progress: Progress,
 }
 
@@ -35,13 +32,6 @@ pub struct Sender {
 pub struct Opened {
     pub outcome: Outcome,
     pub sender: Sender,
-}
-
-pub enum Answer {
-    Refused(Refusal),
-    Quiet,
-    // The packet's length.
-    Sent(usize),
 }
 
 impl Sender {
@@ -88,12 +78,17 @@ impl Sender {
     pub fn clock(&mut self, clock: u64, texts: &[u8; Sender::TEXTS], packet: &mut [u8]) -> Answer
         ensures { λ r. ⌜ Clocks (now (self .entry)) (now (texts .entry)) clock (now (packet .entry)) r (now (self .exit)) (now (packet .exit)) ⌝ }
     {
-        let answer = clocking::answer(*self, clock, texts, packet);
-        if clocking::is_quiet(answer) {
+        let judgement = clocking::judge(*self, clock);
+        if judgement.is_quiet() {
+            *self = clocking::at(*self, clock);
+            return Answer::Quiet;
+        }
+        let answer = clocking::answer(judgement, *self, clock, texts, packet);
+        if answer.is_quiet() {
             *self = clocking::at(*self, clock);
             return answer;
         }
-        if clocking::is_sent(answer) {
+        if answer.is_sent() {
             *self = clocking::after(*self, clock);
             return answer;
         }

@@ -4,6 +4,8 @@ ghost use Rattle.sender.specs.Opening as Opening;
 use crate::Sender;
 use settings::Progress;
 use settings::Settings;
+use slots::Kept;
+use slots::Waiting;
 
 // Nothing offered, and nothing sent.
 pub fn fresh(settings: Settings) -> Sender
@@ -15,15 +17,21 @@ pub fn fresh(settings: Settings) -> Sender
         last_text: 0,
         next: settings.sequence,
     };
-    Sender {
-        settings,
-        clock: 0,
+    let waiting = Waiting {
         room: 0,
         len: 0,
         since: 0,
+    };
+    let kept = Kept {
         lens: [0usize; Sender::LEVEL],
         ats: [0u64; Sender::LEVEL],
         count: 0,
+    };
+    Sender {
+        settings,
+        clock: 0,
+        waiting,
+        kept,
         progress,
     }
 }

@@ -16,9 +16,10 @@ use Rattle.sender_spec.specs.Clocking.{clockOf}
 use Rattle.sender_spec.proofs.Shapes as Shapes
 use Rattle.sender_spec.proofs.Shapes.{Clock, clock-shape}
 use Rattle.sender.specs.declared.Sender.{Sender}
-use Rattle.sender.specs.declared.Answer.{Answer}
+use Rattle.writer.specs.declared.Answer.{Answer}
 use Rattle.sender.specs.State.{stateOf}
-use Rattle.sender.specs.Clocking.{answered, Clocks}
+use Rattle.writer.specs.Draft.{answered}
+use Rattle.sender.specs.Clocking.{Clocks}
 use Rattle.sender_boundary.specs.Calls.{clockCode, signed, codeOf}
 
 module _ (n : ℕ) (h : n < 256) where

@@ -12,10 +12,11 @@ use Rattle.sender_spec.specs.Answers.{Answered, refused, quiet, sent}
 use Rattle.slots.specs.Slots.{textsSize}
 use Rattle.settings.specs.declared.Settings.{Settings}
 use Rattle.sender.specs.declared.Sender.{Sender}
-use Rattle.sender.specs.declared.Answer.{Answer}
+use Rattle.writer.specs.declared.Answer.{Answer}
 use Rattle.sender.specs.Opening.{Opens}
 use Rattle.sender.specs.Offering.{Offers}
-use Rattle.sender.specs.Clocking.{answered, Clocks}
+use Rattle.writer.specs.Draft.{answered}
+use Rattle.sender.specs.Clocking.{Clocks}
 
 abbrev pub settingsOf : ℕ → ℕ → ℕ → ℕ → ℕ → ℕ → ℕ → Settings
 settingsOf level buffering t140 red sequence timestamp source = record {

@@ -4,12 +4,12 @@ ghost use lib.IntN.{pos, negℤ};
 ghost use lib.ListN.{replicate};
 ghost use Rattle.slots.specs.Slots.{textsSize};
 ghost use Rattle.sender.specs.Opening.{Opens};
-ghost use Rattle.sender.specs.Clocking.{answered};
+ghost use Rattle.writer.specs.Draft.{answered};
 ghost use Rattle.sender_boundary.specs.Calls.{settingsOf, signed, codeOf};
-use sender::Answer;
 use sender::Opened;
 use sender::Sender;
 use settings::Settings;
+use writer::Answer;
 
 // The lengths below are those that a signed number counts.
 const SIGNED: usize = 9223372036854775808;

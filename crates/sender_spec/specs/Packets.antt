@@ -38,12 +38,13 @@ abbrev pub anyText : List Block → Bool
 anyText [] = false
 anyText (b ∷ bs) = hasText (b .text) || anyText bs
 
--- "A packet is due when none was sent yet or t is at least the buffering time after the last packet, and besides this the
--- waiting room is not empty or one of the blocks it would carry is not empty"
+-- "A packet is due when none was sent yet or t is at least the buffering time after the last packet,
+abbrev pub readyAt : ℕ → Progress → ℕ → Bool
+readyAt buffering p t = not (p .sent) || leb buffering (t - p .last)
+
+-- and besides this the waiting room is not empty or one of the blocks it would carry is not empty"
 abbrev pub due : Sender → ℕ → Bool
-due s t =
-    (not (s .progress .sent) || leb (s .settings .buffering) (t - s .progress .last))
-    && (hasText (taken s t) || anyText (carried s t))
+due s t = readyAt (s .settings .buffering) (s .progress) t && (hasText (taken s t) || anyText (carried s t))
 
 -- "M is 1 on the first packet, and on a packet with text whose first waiting byte was offered more than the buffering time
 -- after the last packet that had text"

@@ -1,11 +1,13 @@
 // What a sender is opened with, and how far it has come: the checks of the settings, and what a packet takes from both.
 ghost use mathlib.Core.Path.{_≡_};
 ghost use mathlib.Core.Bool.{cond, not, _||_, _&&_};
-ghost use lib.Dec.{ltb, leb};
+ghost use lib.Dec.{ltb};
 ghost use Prim.Native.Nat.{_+_, _-_, _%_};
 ghost use Rattle.packet.specs.Refusal.{outcomeNumber};
 ghost use Rattle.sender_spec.specs.Settings.{bufferingBad, settingsNumber};
-ghost use Rattle.settings.specs.State.{settingsOf};
+ghost use Rattle.sender_spec.specs.Packets.{readyAt};
+ghost use Rattle.settings.specs.State.{settingsOf, progressOf, progressAfter};
+ghost use Rattle.settings.specs.Judging.{judged, isQuiet, judgementOf};
 use packet::Outcome;
 use packet::Packet;
 use packet::Refusal;
@@ -37,6 +39,26 @@ pub struct Progress {
     pub last: u64,
     pub last_text: u64,
     pub next: u16,
+}
+
+// What a clock call comes to, before the texts are looked at.
+pub enum Judged {
+    Refused(Refusal),
+    Quiet,
+    // A packet is due if it has text.
+    Ready,
+}
+
+impl Judged {
+    pub fn is_quiet(self) -> bool
+        ensures { λ r. ⌜ r ≡ isQuiet self ⌝ }
+    {
+        match self {
+            Judged::Quiet => true,
+            Judged::Refused(_) => false,
+            Judged::Ready => false,
+        }
+    }
 }
 
 fn buffering_bad(buffering: u64) -> bool
@@ -76,8 +98,8 @@ fn passed(clock: u64, from: u64) -> u64
 }
 
 // None was sent yet, or the buffering time has passed since the last.
-pub fn ready(progress: Progress, buffering: u64, clock: u64) -> bool
-    ensures { λ r. ⌜ r ≡ (not (progress .sent) || leb buffering (clock - progress .last)) ⌝ }
+fn ready(progress: Progress, buffering: u64, clock: u64) -> bool
+    ensures { λ r. ⌜ r ≡ readyAt buffering (progressOf progress) clock ⌝ }
 {
     let sent = progress.sent;
     if sent {
@@ -85,6 +107,24 @@ pub fn ready(progress: Progress, buffering: u64, clock: u64) -> bool
         return buffering <= waited;
     }
     true
+}
+
+// Judges the clock that is given to a sender with these settings, this latest accepted clock and this progress.
+pub fn judge(settings: Settings, latest: u64, progress: Progress, clock: u64) -> Judged
+    ensures { λ r. ⌜ judged r ≡ judgementOf (settingsOf settings) latest (progressOf progress) clock ⌝ }
+{
+    let outcome = settings_outcome(settings);
+    match outcome {
+        Outcome::Refused(refusal) => return Judged::Refused(refusal),
+        Outcome::Accepted => {}
+    }
+    if clock < latest {
+        return Judged::Refused(Refusal::Clock);
+    }
+    if ready(progress, settings.buffering, clock) {
+        return Judged::Ready;
+    }
+    Judged::Quiet
 }
 
 // M of a packet, by whether text waits, and when its first byte was offered.
@@ -111,11 +151,27 @@ pub fn timestamp(first: u32, clock: u64) -> u32
 }
 
 // When the last packet with text was sent, by the length of what a packet takes.
-pub fn last_text(len: usize, before: u64, clock: u64) -> u64
+fn last_text(len: usize, before: u64, clock: u64) -> u64
     ensures { λ r. ⌜ r ≡ cond (ltb 0 len) clock before ⌝ }
 {
     if 0 < len {
         return clock;
     }
     before
+}
+
+impl Progress {
+    // Behind a packet that takes so many bytes.
+    pub fn after(self, len: usize, clock: u64) -> Progress
+        ensures { λ r. ⌜ r ≡ progressAfter self len clock ⌝ }
+    {
+        let last_text = last_text(len, self.last_text, clock);
+        let next = std::num::wrapping_add_u16(self.next, 1);
+        Progress {
+            sent: true,
+            last: clock,
+            last_text,
+            next,
+        }
+    }
 }

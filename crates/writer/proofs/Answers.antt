@@ -11,7 +11,8 @@ use Rattle.writer.specs.declared.Draft.{Draft}
 use Rattle.base.specs.Arrays.{over}
 use Rattle.packet_spec.specs.Limits.{level}
 use Rattle.sender_spec.specs.Limits.{roomSize}
-use Rattle.writer.specs.Draft.{nothing, short, written, Result, putOf}
+use Rattle.sender_spec.specs.Answers.{refused, quiet, sent}
+use Rattle.writer.specs.Draft.{Result, putOf}
 use Rattle.carrying.specs.Young.{youngRun, textTotal}
 use Rattle.slots.specs.Slots.{textsSize}
 use Rattle.writer.specs.Parts.{packetWith, packetSize}
@@ -19,7 +20,7 @@ use Rattle.writer.proofs.Whole.{packet-is, size-is, some-is}
 
 abbrev put : Bool → Bool → ℕ → List ℕ → List ℕ → Result
 put some few n w p =
-    cond some (cond few (record { answer = short; lent = p }) (record { answer = written n; lent = w })) (record { answer = nothing; lent = p })
+    cond some (cond few (record { answer = refused 8; lent = p }) (record { answer = sent n; lent = w })) (record { answer = quiet; lent = p })
 
 module _ (d : Draft) (texts : List ℕ) (n : ℕ) (lens : length (d .lens) ≡ level) (ats : length (d .ats) ≡ level)
     (whole : length texts ≡ textsSize) (run : n ≡ youngRun (d .clock) (take (min (d .level) (d .count)) (d .ats))) (p : List ℕ) where
@@ -35,13 +36,13 @@ module _ (d : Draft) (texts : List ℕ) (n : ℕ) (lens : length (d .lens) ≡ l
       put (some-is d texts n lens ats whole run i) (ltb (length p) (size-is d texts n lens ats whole run i)) (size-is d texts n lens ats whole run i)
       (over (sym (packet-is d texts n lens ats whole run) i) p) p
 
-  pub put-nothing : text ≡ 0 → record { answer = nothing; lent = p } ≡ putOf d texts p
-  put-nothing h = sym (put-is ∙ ap (λ (b : Bool). put b (ltb (length p) size) size (over (packetWith d texts n) p) p) (le-ltb 0 text (omega arith)))
+  pub put-quiet : text ≡ 0 → record { answer = quiet; lent = p } ≡ putOf d texts p
+  put-quiet h = sym (put-is ∙ ap (λ (b : Bool). put b (ltb (length p) size) size (over (packetWith d texts n) p) p) (le-ltb 0 text (omega arith)))
 
-  pub put-short : 0 < text → length p < size → record { answer = short; lent = p } ≡ putOf d texts p
+  pub put-short : 0 < text → length p < size → record { answer = refused 8; lent = p } ≡ putOf d texts p
   put-short h k =
       sym (put-is ∙ (λ i. put (lt-ltb 0 text h i) (lt-ltb (length p) size k i) size (over (packetWith d texts n) p) p))
 
-  pub put-written : 0 < text → size ≤ length p → record { answer = written size; lent = over (packetWith d texts n) p } ≡ putOf d texts p
-  put-written h k =
+  pub put-sent : 0 < text → size ≤ length p → record { answer = sent size; lent = over (packetWith d texts n) p } ≡ putOf d texts p
+  put-sent h k =
       sym (put-is ∙ (λ i. put (lt-ltb 0 text h i) (le-ltb (length p) size k i) size (over (packetWith d texts n) p) p))

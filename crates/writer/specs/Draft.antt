@@ -1,16 +1,18 @@
 -- A draft and the lent texts in the terms of the sender: what waits, the blocks kept, and the packet that is written from them.
 use Prim.Native.Nat.{ℕ, suc, _%_}
 use mathlib.Core.List.{List, [], _∷_, map, reverse}
-use mathlib.Core.Bool.{cond, _||_}
+use mathlib.Core.Bool.{Bool, true, false, cond, _||_}
 use lib.Dec.{ltb, eqb}
 use lib.ListN.{length, take}
 use Rattle.writer.specs.declared.Draft.{Draft}
-use Rattle.writer.specs.declared.Put.{Put}
-use Rattle.writer.specs.declared.Put.the-variants.{Nothing, Short, Written}
+use Rattle.writer.specs.declared.Answer.{Answer}
+use Rattle.writer.specs.declared.Answer.the-variants.{Refused, Quiet, Sent}
 use Rattle.base.specs.Arrays.{over}
+use Rattle.packet.specs.Refusal.{number}
 use Rattle.packet_spec.specs.Reading.{Content}
 use Rattle.packet_spec.specs.Encoding.{plainBytes, redundantBytes}
 use Rattle.sender_spec.specs.State.{Block, hasText}
+use Rattle.sender_spec.specs.Answers.{Answered, refused, quiet, sent}
 use Rattle.sender_spec.specs.Packets.{recentRun, anyText, repeated}
 use Rattle.slots.specs.Slots.{slotOf, textIn, waitingIn}
 
@@ -46,25 +48,31 @@ abbrev pub packetOf : Draft → List ℕ → List ℕ
 packetOf d texts =
     cond (eqb (d .level) 0) (plainBytes (d .t140 % 128) (contentOf d texts)) (redundantBytes (d .t140 % 128) (d .red % 128) (contentOf d texts))
 
--- what is answered, and the lent space afterwards
-pub data Answer : Type 0 where
-  nothing : Answer
-  short : Answer
-  written : ℕ → Answer
+-- the code's answer in the terms of 01
+abbrev pub answered : Answer → Answered
+answered (Refused r) = refused (number r)
+answered Quiet = quiet
+answered (Sent n) = sent n
 
+abbrev pub isQuiet : Answer → Bool
+isQuiet (Refused r) = false
+isQuiet Quiet = true
+isQuiet (Sent n) = false
+
+abbrev pub isSent : Answer → Bool
+isSent (Refused r) = false
+isSent Quiet = false
+isSent (Sent n) = true
+
+-- what is answered, and the lent space afterwards
 pub record Result : Type 0 where
-  pub answer : Answer
+  pub answer : Answered
   pub lent : List ℕ
 
-abbrev pub answered : Put → Answer
-answered Nothing = nothing
-answered Short = short
-answered (Written n) = written n
-
--- nothing where neither what waits nor a block that would be repeated has text; short where the space does not hold the packet
+-- quiet where neither what waits nor a block that would be repeated has text; refused where the space does not hold the packet
 unfoldable pub putOf : Draft → List ℕ → List ℕ → Result
 putOf d texts p =
     cond (hasText (primaryOf d texts) || anyText (carriedBy d texts))
-    (cond (ltb (length p) (length (packetOf d texts))) (record { answer = short; lent = p })
-    (record { answer = written (length (packetOf d texts)); lent = over (packetOf d texts) p }))
-    (record { answer = nothing; lent = p })
+    (cond (ltb (length p) (length (packetOf d texts))) (record { answer = refused 8; lent = p })
+    (record { answer = sent (length (packetOf d texts)); lent = over (packetOf d texts) p }))
+    (record { answer = quiet; lent = p })

@@ -7,11 +7,12 @@ ghost use Prim.Native.Nat.{_*_, _≤_};
 ghost use lib.ListN.{length};
 ghost use Rattle.packet_spec.specs.Limits.{level};
 ghost use Rattle.sender_spec.specs.Limits.{roomSize};
-ghost use Rattle.writer.specs.Draft.{answered, putOf};
+ghost use Rattle.writer.specs.Draft.{answered, isQuiet, isSent, putOf};
 ghost use Rattle.slots.specs.Slots.{textsSize};
 ghost use Rattle.writer.specs.Parts.{packetSize};
 use heading::Front;
 use packet::Packet;
+use packet::Refusal;
 use slots::Texts;
 
 // What a packet is written from: the header's values; the blocks kept, newest first, by their lengths and times, of which the
@@ -32,21 +33,44 @@ pub struct Draft {
     pub len: usize,
 }
 
-// Nothing to send; the space is too short; or the packet's length.
-pub enum Put {
-    Nothing,
-    Short,
-    Written(usize),
+// What the clock call answers.
+pub enum Answer {
+    Refused(Refusal),
+    Quiet,
+    // The packet's length.
+    Sent(usize),
 }
 
-// Writes the packet to the front of the space, where there is something to send and the space holds it.
-pub fn put_packet(packet: &mut [u8], texts: &[u8; Texts::SIZE], draft: Draft) -> Put
-    ensures { λ r. ⌜ record { answer = answered r; lent = now (packet .exit) } ≡ putOf draft (now (texts .entry)) (now (packet .entry)) ⌝ }
+impl Answer {
+    pub fn is_quiet(self) -> bool
+        ensures { λ r. ⌜ r ≡ isQuiet self ⌝ }
+    {
+        match self {
+            Answer::Quiet => true,
+            Answer::Refused(_) => false,
+            Answer::Sent(_) => false,
+        }
+    }
+
+    pub fn is_sent(self) -> bool
+        ensures { λ r. ⌜ r ≡ isSent self ⌝ }
+    {
+        match self {
+            Answer::Sent(_) => true,
+            Answer::Quiet => false,
+            Answer::Refused(_) => false,
+        }
+    }
+}
+
+// Writes the packet to the front of the space, where there is something to send and the space holds it. So many texts are lent.
+pub fn put_packet(packet: &mut [u8], texts: &[u8; Texts::SIZE], draft: Draft) -> Answer
+    ensures { λ r. ⌜ (record { answer = answered r; lent = now (packet .exit) } ≡ putOf draft (now (texts .entry)) (now (packet .entry))) × (length (now (texts .entry)) ≡ textsSize) ⌝ }
 {
     put_draft(packet, texts, draft)
 }
 
-fn put_draft(packet: &mut [u8], texts: &[u8], draft: Draft) -> Put
+fn put_draft(packet: &mut [u8], texts: &[u8], draft: Draft) -> Answer
     requires { ⌜ length (now texts) ≡ textsSize ⌝ }
     ensures { λ r. ⌜ record { answer = answered r; lent = now (packet .exit) } ≡ putOf draft (now (texts .entry)) (now (packet .entry)) ⌝ }
 {
@@ -57,11 +81,11 @@ fn put_draft(packet: &mut [u8], texts: &[u8], draft: Draft) -> Put
     let older = carried.text;
     let primary = numbers::least(draft.len, Texts::ROOM);
     if older + primary == 0 {
-        return Put::Nothing;
+        return Answer::Quiet;
     }
     let size = size(draft.level, carried.count, older, primary);
     if packet.len() < size {
-        return Put::Short;
+        return Answer::Refused(Refusal::Space);
     }
     let front = Front {
         level: draft.level,
@@ -84,7 +108,7 @@ fn put_draft(packet: &mut [u8], texts: &[u8], draft: Draft) -> Put
         draft.len,
         carried.count,
     );
-    Put::Written(size)
+    Answer::Sent(size)
 }
 
 // The length of a packet with `count` older blocks of `older` bytes together, and a primary of `primary` bytes.

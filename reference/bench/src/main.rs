@@ -8,6 +8,9 @@ mod schedule;
 mod sending;
 mod stepping;
 
+use std::env;
+use std::process::ExitCode;
+
 use compare::say;
 use contest::ROUNDS;
 use packets::Packets;
@@ -17,14 +20,48 @@ use stewpigeon::Sender;
 const SEED: u64 = 4103;
 const PACKETS: usize = 1_000_000;
 
-fn main() {
+const OFTEN: (u64, u64) = (Schedule::OFTEN, 500_000);
+const SELDOM: (u64, u64) = (Schedule::SELDOM, 200_000);
+
+const USAGE: &str = "usage: bench\n       bench offers|sending|quiet LEVEL TIMES";
+
+fn schedule((pace, calls): (u64, u64)) -> Schedule {
+    Schedule::new(SEED, pace, calls)
+}
+
+fn times() {
     say!("seed {SEED}, {ROUNDS} rounds after a warm-up, both sides in turn\n");
     reading::packets(&Packets::mixed(SEED, PACKETS));
     stepping::steps(&Packets::line(SEED, PACKETS));
     for level in [2, Sender::LEVEL] {
-        for (pace, calls) in [(Schedule::OFTEN, 500_000), (Schedule::SELDOM, 200_000)] {
-            sending::line(level, &Schedule::new(SEED, pace, calls));
+        for pace in [OFTEN, SELDOM] {
+            sending::line(level, &schedule(pace));
         }
     }
     reading::texts();
+}
+
+/// Makes a sender's calls of one kind at a level, so many times over.
+fn calls(kind: &str, level: &str, times: &str) -> Option<usize> {
+    let (level, times) = (level.parse().ok()?, times.parse().ok()?);
+    sending::repeated(kind, level, &schedule(OFTEN), times)
+}
+
+fn main() -> ExitCode {
+    let words: Vec<String> = env::args().skip(1).collect();
+    let words: Vec<&str> = words.iter().map(String::as_str).collect();
+    match words[..] {
+        [] => times(),
+        [kind, level, times] => match calls(kind, level, times) {
+            Some(count) => say!("{count}"),
+            None => return usage(),
+        },
+        _ => return usage(),
+    }
+    ExitCode::SUCCESS
+}
+
+fn usage() -> ExitCode {
+    eprintln!("{USAGE}");
+    ExitCode::from(2)
 }

@@ -162,8 +162,10 @@ fn prepare<'a>(line: &Line<'a>) -> [Prepared<'a>; 3] {
     prepared
 }
 
-/// Times these calls alone, each on a fresh copy of its sender.
+/// Times these calls alone, so many times over, each on a fresh copy of its
+/// sender.
 fn alone<S: Clone>(
+    times: usize,
     senders: &[S],
     events: &[&Event],
     call: impl Fn(&mut S, &Event, &mut [u8]) -> u64,
@@ -171,7 +173,7 @@ fn alone<S: Clone>(
     let mut space = [0; SPACE];
     let mut sum = 0;
     let mut time = Duration::ZERO;
-    for _ in 0..TIMES {
+    for _ in 0..times {
         let mut copies = senders.to_vec();
         let start = Instant::now();
         for (sender, event) in copies.iter_mut().zip(events) {
@@ -182,19 +184,23 @@ fn alone<S: Clone>(
     Run { time, sum }
 }
 
+fn proved_alone(times: usize, prepared: &Prepared<'_>) -> Run {
+    alone(times, &prepared.proved, &prepared.events, proved_call)
+}
+
+fn independent_alone(times: usize, prepared: &Prepared<'_>) -> Run {
+    let senders = &prepared.independent;
+    alone(times, senders, &prepared.events, independent_call)
+}
+
 fn calls_alone(level: usize, what: &str, name: &str, prepared: &Prepared<'_>) {
-    let events = &prepared.events;
-    say!(
-        "SENDING: {what} alone, level {level}, {} senders {TIMES} times\n",
-        events.len()
-    );
+    let calls = prepared.events.len();
+    say!("SENDING: {what} alone, level {level}, {calls} senders {TIMES} times\n");
     contest(
-        events.len() * TIMES,
+        calls * TIMES,
         "call",
-        (name, &|| alone(&prepared.proved, events, proved_call)),
-        ("independent Rust", &|| {
-            alone(&prepared.independent, events, independent_call)
-        }),
+        (name, &|| proved_alone(TIMES, prepared)),
+        ("independent Rust", &|| independent_alone(TIMES, prepared)),
     );
 }
 
@@ -224,4 +230,20 @@ pub fn line(level: usize, schedule: &Schedule) {
         calls_alone(level, "quiet clock calls", &clock, &quiet);
         calls_alone(level, "offers", &offer, &offers);
     }
+}
+
+/// Calls of one kind, so many times over by both programs, for whoever counts
+/// their instructions. Answers how many calls each has made in a turn; none
+/// where there is no such kind.
+pub fn repeated(kind: &str, level: usize, schedule: &Schedule, times: usize) -> Option<usize> {
+    let [offers, sent, quiet] = prepare(&Line { level, schedule });
+    let prepared = match kind {
+        "offers" => offers,
+        "sending" => sent,
+        "quiet" => quiet,
+        _ => return None,
+    };
+    let [ours, theirs] = [proved_alone, independent_alone].map(|run| run(times, &prepared).sum);
+    assert_eq!(ours, theirs, "the answers differ");
+    Some(prepared.events.len())
 }

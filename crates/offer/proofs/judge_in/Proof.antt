@@ -36,7 +36,7 @@ returns c =
     let start = c .before .before .before .before .before .before in
     let a = start .args in
     let r = c .before .before .before .settings-outcome in
-    let state = senderWhere (a .settings) (a .latest) (waitingIn (now (a .texts)) (a .room) (a .len)) in
+    let state = senderWhere (a .settings) (a .latest) (waitingIn (now (a .texts)) (a .waiting .room) (a .waiting .len)) in
     let k = c .before .outcome .given in
     let e : outcomeNumber (r .result) ≡ number (k .0 .0) = ap outcomeNumber (k .1) in
     record { number = number-by (offer-settings state (a .clock) (now (a .text)) (number (k .0 .0)) (sym e ∙ r .ensures) (number-positive (k .0 .0))); bytes = refl; whole = size start }
@@ -49,7 +49,7 @@ returns-2 c =
     let start = c .before .before .before .before .before .before in
     let a = start .args in
     let r = c .before .before .before .settings-outcome in
-    let state = senderWhere (a .settings) (a .latest) (waitingIn (now (a .texts)) (a .room) (a .len)) in
+    let state = senderWhere (a .settings) (a .latest) (waitingIn (now (a .texts)) (a .waiting .room) (a .waiting .len)) in
     record { number = number-by (offer-5 state (a .clock) (now (a .text)) (outcomeNumber (r .result)) (r .ensures) (ap outcomeNumber (c .before .enum-told .given .1)) (c .if1 .taken)); bytes = refl; whole = size start }
 
 returns-3 : tie.Need-returns-3
@@ -57,7 +57,7 @@ returns-3 c =
     let start = c .before .before .before .before .before .before .before in
     let a = start .args in
     let r = c .before .before .before .before .settings-outcome in
-    let state = senderWhere (a .settings) (a .latest) (waitingIn (now (a .texts)) (a .room) (a .len)) in
+    let state = senderWhere (a .settings) (a .latest) (waitingIn (now (a .texts)) (a .waiting .room) (a .waiting .len)) in
     record { number = number-by (offer-7 state (a .clock) (now (a .text)) (outcomeNumber (r .result)) (r .ensures) (ap outcomeNumber (c .before .before .enum-told .given .1)) (c .before .if1 .left) (c .if2 .taken)); bytes = refl; whole = size start }
 
 is-text-requires : tie.Need-is-text-requires
@@ -68,7 +68,7 @@ returns-4 c =
     let start = c .before .before .before .before .before .before .before .before .before in
     let a = start .args in
     let r = c .before .before .before .before .before .before .settings-outcome in
-    let state = senderWhere (a .settings) (a .latest) (waitingIn (now (a .texts)) (a .room) (a .len)) in
+    let state = senderWhere (a .settings) (a .latest) (waitingIn (now (a .texts)) (a .waiting .room) (a .waiting .len)) in
     let is-text = c .before .is-text in
     record {
       number = number-by (offer-6 state (a .clock) (now (a .text)) (outcomeNumber (r .result)) (r .ensures) (ap outcomeNumber (c .before .before .before .before .enum-told .given .1)) (c .before .before .before .if1 .left) (c .before .before .if2 .left) (sym (is-text .ensures) ∙ not-true (is-text .result) (c .if3 .taken)));
@@ -87,9 +87,9 @@ returns-5 c =
     let start = c .before .before .before .before .before .before .before .before .before .before .before in
     let a = start .args in
     let r = c .before .before .before .before .before .before .before .before .settings-outcome in
-    let state = senderWhere (a .settings) (a .latest) (waitingIn (now (a .texts)) (a .room) (a .len)) in
+    let state = senderWhere (a .settings) (a .latest) (waitingIn (now (a .texts)) (a .waiting .room) (a .waiting .len)) in
     let is-text = c .before .before .before .is-text in
-    let waits = waiting-length (now (a .texts)) (size start) (a .room) (a .len) in
+    let waits = waiting-length (now (a .texts)) (size start) (a .waiting .room) (a .waiting .len) in
     record {
       number = number-by (offer-4 state (a .clock) (now (a .text)) (outcomeNumber (r .result)) (r .ensures) (ap outcomeNumber (c .before .before .before .before .before .before .enum-told .given .1)) (c .before .before .before .before .before .if1 .left) (c .before .before .before .before .if2 .left) (sym (is-text .ensures) ∙ not-false (is-text .result) (c .before .before .if3 .left)) (omega (arith, waits, c .before .least .ensures)));
       bytes = refl;
@@ -118,13 +118,13 @@ returns-6 c =
     let r = c .before .before .before .before .before .before .before .before .before .before .before .before .before .settings-outcome in
     let texts = now (a .texts) in
     let x = now (a .text) in
-    let state = senderWhere (a .settings) (a .latest) (waitingIn texts (a .room) (a .len)) in
+    let state = senderWhere (a .settings) (a .latest) (waitingIn texts (a .waiting .room) (a .waiting .len)) in
     let is-text = c .before .before .before .before .before .before .before .before .is-text in
     let least = c .before .before .before .before .before .before .least in
     let room = c .before .before .before .before .room-of in
-    let at : room .result * roomSize + least .result ≡ endOf (a .room) (a .len) = λ i. room .ensures .0 i * roomSize + least .ensures i in
-    let fits : min (a .len) roomSize + length x ≤ roomSize = omega (arith, least .ensures, c .before .before .before .before .before .if4 .left) in
-    let waits = waiting-length texts (size start) (a .room) (a .len) in
+    let at : room .result * roomSize + least .result ≡ endOf (a .waiting .room) (a .waiting .len) = λ i. room .ensures .0 i * roomSize + least .ensures i in
+    let fits : min (a .waiting .len) roomSize + length x ≤ roomSize = omega (arith, least .ensures, c .before .before .before .before .before .if4 .left) in
+    let waits = waiting-length texts (size start) (a .waiting .room) (a .waiting .len) in
     let bytes = c .before .before .put .ensures ∙ ap (λ (k : ℕ). take k texts ++ over x (drop k texts)) at in
     record {
       number = number-by (offer-joined state (a .clock) x (outcomeNumber (r .result)) (r .ensures) (ap outcomeNumber (c .before .before .before .before .before .before .before .before .before .before .before .enum-told .given .1)) (c .before .before .before .before .before .before .before .before .before .before .if1 .left) (c .before .before .before .before .before .before .before .before .before .if2 .left) (sym (is-text .ensures) ∙ not-false (is-text .result) (c .before .before .before .before .before .before .before .if3 .left)) (omega (arith, waits)));

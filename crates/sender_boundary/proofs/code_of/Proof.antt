@@ -4,8 +4,8 @@ use lib.IntN.{pos, negℤ}
 use mir.Syntax.{w64}
 use mir.Facts.{toZ-ofZ}
 use borrow.Author.Needs.{needs}
-use Rattle.sender.specs.declared.Answer.{Answer}
-use Rattle.sender.specs.Clocking.{answered}
+use Rattle.writer.specs.declared.Answer.{Answer}
+use Rattle.writer.specs.Draft.{answered}
 use Rattle.sender_boundary.specs.Calls.{codeOf}
 use Rattle.sender_boundary.proofs.code_of.Statement.{statement}
 use Rattle.sender_boundary.proofs.code_of.Tie as tie

@@ -10,13 +10,13 @@ use Rattle.base.proofs.Lent.{length-over}
 use Rattle.base.proofs.Written.{wrote-both, lent-fits}
 use Rattle.packet_spec.specs.Limits.{level}
 use Rattle.sender_spec.specs.Limits.{roomSize}
-use Rattle.writer.specs.Draft.{written}
+use Rattle.sender_spec.specs.Answers.{sent}
 use Rattle.carrying.specs.Young.{youngRun, textTotal}
 use Rattle.heading.specs.Headers.{frontWith}
 use Rattle.heading.proofs.Headers.{front-over}
 use Rattle.writer.specs.Parts.{textsOf, frontIn, packetWith, packetSize}
 use Rattle.writer.proofs.Whole.{few, front-size, size-is}
-use Rattle.writer.proofs.Answers.{put-nothing, put-short, put-written}
+use Rattle.writer.proofs.Answers.{put-quiet, put-short, put-sent}
 use borrow.Author.Needs.{needs}
 use Rattle.writer.proofs.put_draft.Statement.{statement}
 use Rattle.writer.proofs.put_draft.Tie as tie
@@ -56,7 +56,7 @@ returns c =
     let r = c .before .before in
     let st = r .before .before .before .before .before .before in
     let a = st .args in
-    put-nothing (a .draft) (now (a .texts)) (r .run .result .count) (lens-long st) (ats-long st) (st .pre) (run-is r) (now (a .packet))
+    put-quiet (a .draft) (now (a .texts)) (r .run .result .count) (lens-long st) (ats-long st) (st .pre) (run-is r) (now (a .packet))
     (omega (arith, c .if1 .taken, r .run .ensures .1, c .before .least2 .ensures))
 
 size-requires : tie.Need-size-requires
@@ -167,8 +167,8 @@ returns-3 c =
     let r = s .before .before .before in
     let st = r .before .before .before .before .before .before in
     let a = st .args in
-    (λ i. record { answer = written (size-of s i); lent = whole (c .before .before) i })
-    ∙ put-written (a .draft) (now (a .texts)) (r .run .result .count) (lens-long st) (ats-long st) (st .pre) (run-is r) (now (a .packet))
+    (λ i. record { answer = sent (size-of s i); lent = whole (c .before .before) i })
+    ∙ put-sent (a .draft) (now (a .texts)) (r .run .result .count) (lens-long st) (ats-long st) (st .pre) (run-is r) (now (a .packet))
     (omega (arith, s .before .if1 .left, r .run .ensures .1, s .before .before .least2 .ensures)) (omega (arith, e .if2 .left, size-of s))
 
 pub put-draft-spec : {M : Type 1} → statement M

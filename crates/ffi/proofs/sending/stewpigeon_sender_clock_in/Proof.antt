@@ -40,10 +40,11 @@ use denote.Exit.{yes}
 use Rattle.base.proofs.Records.{Data, of-enum, of-uint, of-sint, Known, had, returned, copied, freed}
 use Rattle.slots.specs.Slots.{textsSize}
 use Rattle.sender.specs.declared.Sender.{Sender}
-use Rattle.sender.specs.declared.Answer.{Answer}
-use Rattle.sender.specs.Clocking.{answered, Clocks}
-use Rattle.sender.proofs.Answer as N
-use Rattle.sender.proofs.Answer.Laws as N′
+use Rattle.writer.specs.declared.Answer.{Answer}
+use Rattle.writer.specs.Draft.{answered}
+use Rattle.sender.specs.Clocking.{Clocks}
+use Rattle.writer.proofs.Answer as N
+use Rattle.writer.proofs.Answer.Laws as N′
 use Rattle.sender.proofs.Sender as S
 use Rattle.sender.proofs.Sender.clock as clock
 use Rattle.sender.proofs.Sender.clock.Symbol as clock-def

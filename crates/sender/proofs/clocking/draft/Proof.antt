@@ -11,23 +11,22 @@ timestamp-requires c κs = search needs
 
 returns : tie.Need-returns
 returns c =
-    let a = c .before .before .before .before .before .before .args in
+    let a = c .before .before .before .before .before .before .before .before .before .args in
     let s = a .sender in
-    let start = c .before .before .before .before .before .before in
     λ i. record {
       level = s .settings .level;
       t140 = s .settings .t140;
       red = s .settings .red;
-      marker = c .before .marker .ensures i;
+      marker = c .before .before .before .marker .ensures i;
       sequence = s .progress .next;
-      timestamp = c .timestamp .ensures i;
+      timestamp = c .before .before .timestamp .ensures i;
       source = s .settings .source;
       clock = a .clock;
-      lens = s .lens;
-      ats = s .ats;
-      count = s .count;
-      room = s .room;
-      len = start .pre i;
+      lens = s .kept .lens;
+      ats = s .kept .ats;
+      count = s .kept .count;
+      room = s .waiting .room;
+      len = s .waiting .len;
     }
 
 pub draft-spec : {M : Type 1} → statement M
