@@ -1,5 +1,5 @@
 -- The headers of a packet, by the lengths and times of the blocks kept, newest first.
-use Prim.Native.Nat.{ℕ, _+_, _-_, _*_, _/_, _%_, min}
+use Prim.Native.Nat.{ℕ, _+_, _-_, _*_, _%_, min}
 use mathlib.Core.List.{List, [], _∷_, _++_}
 use mathlib.Core.Bool.{cond}
 use lib.Dec.{ltb, eqb}
@@ -7,25 +7,17 @@ use lib.ListN.{length, getD}
 use Rattle.heading.specs.declared.Front.{Front}
 use Rattle.base.specs.Arrays.{over}
 use Rattle.packet_spec.specs.Limits.{level}
-use Rattle.packet_spec.specs.Encoding.{bytes16, bytes32, markerBit}
+use Rattle.packet_spec.specs.Encoding.{markerBit, fixedHeader, blockHeader}
 use Rattle.delivery.specs.Run.{oldestAge}
 use Rattle.sender_spec.specs.Limits.{roomSize}
 use Rattle.heading.specs.LastFirst.{lastFirst}
-
--- the fixed header, with M and the payload type as one byte
-abbrev pub headerOf : ℕ → ℕ → ℕ → ℕ → List ℕ
-headerOf second sequence timestamp source = 0x80 ∷ second ∷ (bytes16 sequence ++ (bytes32 timestamp ++ bytes32 source))
-
--- an older block's header by its time offset and length
-abbrev pub headOf : ℕ → ℕ → ℕ → List ℕ
-headOf t140 offset len = (128 + t140) ∷ offset / 64 ∷ (offset % 64 * 4 + len / 256) ∷ len % 256 ∷ []
 
 -- a time offset has 14 bits
 abbrev pub offsetOf : ℕ → ℕ → ℕ
 offsetOf t at = min (t - at) oldestAge
 
 abbrev pub headAt : ℕ → ℕ → List ℕ → List ℕ → ℕ → List ℕ
-headAt t140 t lens ats i = headOf t140 (offsetOf t (getD ats i 0)) (min (getD lens i 0) roomSize)
+headAt t140 t lens ats i = blockHeader t140 (offsetOf t (getD ats i 0)) (min (getD lens i 0) roomSize)
 
 -- the headers of the first n blocks, oldest first, and the primary's
 abbrev pub headsOf : ℕ → ℕ → List ℕ → List ℕ → ℕ → List ℕ
@@ -41,7 +33,7 @@ headsWith f n = cond (eqb (f .level) 0) [] (headsOf (f .t140 % 128) (f .clock) (
 
 -- all its headers
 abbrev pub frontWith : Front → ℕ → List ℕ
-frontWith f n = headerOf (secondOf f) (f .sequence) (f .timestamp) (f .source) ++ headsWith f n
+frontWith f n = fixedHeader (secondOf f) (f .sequence) (f .timestamp) (f .source) ++ headsWith f n
 
 -- their length at level R
 abbrev pub frontSize : ℕ → ℕ → ℕ

@@ -6,9 +6,9 @@ ghost use Prim.Native.Nat.{_+_, _%_, _≤_, _<_, min};
 ghost use lib.ListN.{length};
 ghost use Rattle.base.specs.Arrays.{over};
 ghost use Rattle.packet_spec.specs.Limits.{level};
-ghost use Rattle.packet_spec.specs.Encoding.{markerBit};
+ghost use Rattle.packet_spec.specs.Encoding.{markerBit, fixedHeader, blockHeader};
 ghost use Rattle.sender_spec.specs.Limits.{roomSize};
-ghost use Rattle.heading.specs.Headers.{headerOf, offsetOf, headOf, headsOf, frontWith, frontSize, frontOf, placed};
+ghost use Rattle.heading.specs.Headers.{offsetOf, headsOf, frontWith, frontSize, frontOf, placed};
 use carrying::Block;
 use packet::Packet;
 
@@ -89,7 +89,7 @@ fn second(marker: bool, kind: u8) -> u8
 // The fixed header, of 12 bytes.
 fn put_header(to: &mut [u8], second: u8, sequence: u16, timestamp: u32, source: u32)
     requires { ⌜ 12 ≤ length (now to) ⌝ }
-    ensures { λ _. ⌜ now (to .exit) ≡ over (headerOf second sequence timestamp source) (now (to .entry)) ⌝ }
+    ensures { λ _. ⌜ now (to .exit) ≡ over (fixedHeader second sequence timestamp source) (now (to .entry)) ⌝ }
 {
     to[0] = 0x80;
     to[1] = second;
@@ -136,7 +136,7 @@ fn put_heads(
 // The header of an older block, of 4 bytes.
 fn put_head(to: &mut [u8], t140: u8, clock: u64, at: u64, len: usize)
     requires { ⌜ (t140 < 128) × (4 ≤ length (now to)) ⌝ }
-    ensures { λ _. ⌜ now (to .exit) ≡ over (headOf t140 (offsetOf clock at) (min len roomSize)) (now (to .entry)) ⌝ }
+    ensures { λ _. ⌜ now (to .exit) ≡ over (blockHeader t140 (offsetOf clock at) (min len roomSize)) (now (to .entry)) ⌝ }
 {
     let size = numbers::least(len, Block::ROOM) as u64;
     let offset = offset(clock, at);

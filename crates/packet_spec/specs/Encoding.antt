@@ -18,12 +18,19 @@ abbrev pub markerBit : Bool → ℕ
 markerBit true = 128
 markerBit false = 0
 
+-- the fixed header, with M and the payload type as one byte
+abbrev pub fixedHeader : ℕ → ℕ → ℕ → ℕ → List ℕ
+fixedHeader second sequence timestamp source = 0x80 ∷ second ∷ (bytes16 sequence ++ (bytes32 timestamp ++ bytes32 source))
+
 abbrev pub headerBytes : ℕ → Content → List ℕ
-headerBytes type c = 0x80 ∷ (markerBit (c .marker) + type) ∷ (bytes16 (c .sequence) ++ (bytes32 (c .timestamp) ++ bytes32 (c .source)))
+headerBytes type c = fixedHeader (markerBit (c .marker) + type) (c .sequence) (c .timestamp) (c .source)
 
 -- an older block's header: bit 1, 7 bits of type, 14 bits of time offset, 10 bits of length
+abbrev pub blockHeader : ℕ → ℕ → ℕ → List ℕ
+blockHeader t140 offset len = (128 + t140) ∷ offset / 64 ∷ (offset % 64 * 4 + len / 256) ∷ len % 256 ∷ []
+
 abbrev pub headBytes : ℕ → Block → List ℕ
-headBytes t140 b = (128 + t140) ∷ (b .offset / 64) ∷ (b .offset % 64 * 4 + length (b .bytes) / 256) ∷ (length (b .bytes) % 256) ∷ []
+headBytes t140 b = blockHeader t140 (b .offset) (length (b .bytes))
 
 -- the older blocks' headers and the primary's
 abbrev pub headsBytes : ℕ → List Block → List ℕ

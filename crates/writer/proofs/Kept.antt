@@ -11,7 +11,7 @@ use lib.Seq.{take-suc, take-take, take-all}
 use borrow.Author.Tests.{lt-ltb, leb-true, leb-false}
 use Rattle.base.proofs.Tests.{by-test}
 use Rattle.packet_spec.specs.Redundancy.{blocksOf, joined}
-use Rattle.packet_spec.specs.Encoding.{headsBytes}
+use Rattle.packet_spec.specs.Encoding.{blockHeader, headsBytes}
 use Rattle.sender_spec.specs.Limits.{roomSize}
 use Rattle.sender_spec.specs.State.{Block}
 use Rattle.sender_spec.specs.Packets.{recent, recentRun, anyText, repeated}
@@ -20,7 +20,7 @@ use Rattle.writer.specs.Draft.{blocksFrom}
 use Rattle.carrying.specs.Young.{young, youngRun, textTotal}
 use Rattle.carrying.proofs.Young.{AllYoung, young-age}
 use Rattle.heading.specs.LastFirst.{lastFirst}
-use Rattle.heading.specs.Headers.{offsetOf, headOf, headAt, headsOf}
+use Rattle.heading.specs.Headers.{offsetOf, headAt, headsOf}
 use Rattle.heading.proofs.LastFirst.{last-none, last-more}
 use Rattle.writer.specs.Parts.{textAt}
 use Rattle.writer.proofs.Slots.{kept-length}
@@ -118,7 +118,7 @@ module _ (texts : List ℕ) (room : ℕ) where
     kept-heads whole t140 (suc n) h all =
         let age : t - getD ats n 0 ≡ offsetOf t (getD ats n 0) = sym (young-age t (getD ats n 0) (all n (omega arith))) in
         ap (λ (l : List Block). headsBytes t140 (map (repeated t) l)) (last-kept n h)
-        ∙ (λ i. headOf t140 (age i) (kept-length texts whole room (suc n) (getD lens n 0) i) ++ kept-heads whole t140 n (omega arith) (λ j k. all j (omega (arith, k))) i)
+        ∙ (λ i. blockHeader t140 (age i) (kept-length texts whole room (suc n) (getD lens n 0) i) ++ kept-heads whole t140 n (omega arith) (λ j k. all j (omega (arith, k))) i)
         ∙ sym (last-more (headAt t140 t lens ats) (t140 ∷ []) n)
 
     pub kept-texts : (x : List ℕ) (n : ℕ) → n ≤ length ats → joined (blocksOf (map (repeated t) (reverse (take n kept))) x) ≡ lastFirst (textAt texts room lens) x n

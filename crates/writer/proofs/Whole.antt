@@ -10,7 +10,7 @@ use lib.Seq.{take-take}
 use borrow.Author.Tests.{eq-eqb, ne-eqb, eqb-true}
 use Rattle.writer.specs.declared.Draft.{Draft}
 use Rattle.packet_spec.specs.Limits.{level}
-use Rattle.packet_spec.specs.Encoding.{markerBit, headsBytes}
+use Rattle.packet_spec.specs.Encoding.{markerBit, fixedHeader, headsBytes}
 use Rattle.packet_spec.specs.Redundancy.{joined, blocksOf}
 use Rattle.sender_spec.specs.Limits.{roomSize}
 use Rattle.sender_spec.specs.State.{Block, hasText}
@@ -19,7 +19,7 @@ use Rattle.writer.specs.Draft.{blocksFrom, carriedBy, primaryOf, packetO
 use Rattle.carrying.specs.Young.{youngRun, textTotal}
 use Rattle.carrying.proofs.Young.{AllYoung, run-few, run-young}
 use Rattle.heading.specs.LastFirst.{lastFirst}
-use Rattle.heading.specs.Headers.{headerOf, headsOf, headsWith, frontWith}
+use Rattle.heading.specs.Headers.{headsOf, headsWith, frontWith}
 use Rattle.heading.proofs.LastFirst.{last-none}
 use Rattle.heading.proofs.Headers as Headers
 use Rattle.slots.specs.Slots.{textsSize}
@@ -81,7 +81,7 @@ module _ (d : Draft) (texts : List ℕ) (n : ℕ) (lens : length (d .lens) ≡ l
   packet-is = go (eqb (d .level) 0) refl
     where
       header : ℕ → List ℕ
-      header type = headerOf (markerBit (d .marker) + type) (d .sequence) (d .timestamp) (d .source)
+      header type = fixedHeader (markerBit (d .marker) + type) (d .sequence) (d .timestamp) (d .source)
 
       go : (b : Bool) → eqb (d .level) 0 ≡ b
           → header (cond b (d .t140 % 128) (d .red % 128)) ++ (cond b [] (headsOf (d .t140 % 128) (d .clock) (d .lens) (d .ats) n) ++ textsOf texts (d .room) (d .lens) (d .len) n)

@@ -8,8 +8,8 @@ use denote.Ref.{now}
 use Rattle.base.specs.Arrays.{over}
 use Rattle.base.proofs.Lent.{length-over}
 use Rattle.base.proofs.Written.{wrote-both, lent-fits}
-use Rattle.packet_spec.specs.Encoding.{markerBit}
-use Rattle.heading.specs.Headers.{headerOf, headsOf, secondOf, headsWith, frontWith}
+use Rattle.packet_spec.specs.Encoding.{markerBit, fixedHeader}
+use Rattle.heading.specs.Headers.{headsOf, secondOf, headsWith, frontWith}
 use Rattle.heading.proofs.Headers.{heads-plain, heads-redundant}
 use borrow.Author.Needs.{needs}
 use Rattle.heading.proofs.put_all.Statement.{statement}
@@ -20,11 +20,11 @@ second-is : (c : tie.After-second) → c .second .result ≡ secondOf (c .before
 second-is c = c .second .ensures ∙ ap (λ (k : ℕ). markerBit (c .before .before .before .args .front .marker) + k) (c .before .kind .ensures .0)
 
 abbrev header : tie.After-second → List ℕ
-header c = let d = c .before .before .before .args .front in headerOf (c .second .result) (d .sequence) (d .timestamp) (d .source)
+header c = let d = c .before .before .before .args .front in fixedHeader (c .second .result) (d .sequence) (d .timestamp) (d .source)
 
 -- the header with the block headers behind it
 front : (c : tie.After-second) (x : List ℕ) → let a = c .before .before .before .args in headsWith (a .front) (a .count) ≡ x → header c ++ x ≡ frontWith (a .front) (a .count)
-front c x e = let d = c .before .before .before .args .front in λ i. headerOf (second-is c i) (d .sequence) (d .timestamp) (d .source) ++ sym e i
+front c x e = let d = c .before .before .before .args .front in λ i. fixedHeader (second-is c i) (d .sequence) (d .timestamp) (d .source) ++ sym e i
 
 abbrev heads : tie.Else1 → List ℕ
 heads c =

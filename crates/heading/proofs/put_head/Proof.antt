@@ -2,7 +2,7 @@ use native.Mathlib.Omega.{arith}
 use lib.ListN.{length-set}
 use denote.Ref.{now}
 use Rattle.base.proofs.Stores.{sets-over}
-use Rattle.heading.specs.Headers.{headOf}
+use Rattle.packet_spec.specs.Encoding.{blockHeader}
 use borrow.Author.Needs.{needs}
 use Rattle.heading.proofs.put_head.Statement.{statement}
 use Rattle.heading.proofs.put_head.Tie as tie
@@ -49,7 +49,7 @@ same-length c = simp length-set
 returns : tie.Need-returns
 returns c =
     let a = c .before .before .before .args in
-    rw (← (c .before .least .ensures), ← (c .offset .ensures)) (sets-over (headOf (a .t140) (c .offset .result) (c .before .least .result)) (now (a .to)) (c .before .before .before .pre .1))
+    rw (← (c .before .least .ensures), ← (c .offset .ensures)) (sets-over (blockHeader (a .t140) (c .offset .result) (c .before .least .result)) (now (a .to)) (c .before .before .before .pre .1))
 
 pub put-head-spec : {M : Type 1} → statement M
 put-head-spec =

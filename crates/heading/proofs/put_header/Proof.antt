@@ -9,12 +9,12 @@ use mir.Syntax.{w8}
 use mir.Val.{Fits}
 use denote.Ref.{now}
 use Rattle.base.proofs.Stores.{sets-over}
-use Rattle.heading.specs.Headers.{headerOf}
+use Rattle.packet_spec.specs.Encoding.{fixedHeader}
 use Rattle.heading.proofs.put_header.Statement.{statement}
 use Rattle.heading.proofs.put_header.Tie as tie
 
 abbrev bytes : tie.Start → List ℕ
-bytes c = let a = c .args in headerOf (a .second) (a .sequence) (a .timestamp) (a .source)
+bytes c = let a = c .args in fixedHeader (a .second) (a .sequence) (a .timestamp) (a .source)
 
 -- an index is within the space, also where the bytes before it are stored
 within : (c : tie.Start) (k : ℕ) → k < 12 → k < length (sets (now (c .args .to)) 0 (take k (bytes c)))
