@@ -13,7 +13,7 @@ use Rattle.packet.specs.declared.Older.{Older}
 use Rattle.packet_spec.specs.Redundancy.{Head}
 use Rattle.text_spec.specs.Utf8.{isText}
 use Rattle.packet_spec.specs.Redundancy.{total, olderOf, blocksOf, allText, areText}
-use Rattle.blocks.specs.Headers.{seenHead, noHead}
+use Rattle.block_headers.specs.Seen.{seenHead, noHead}
 use Rattle.blocks.specs.Placing.{headPlaces}
 use Rattle.base.proofs.Slices.{take-slice, drop-slice}
 

@@ -1,33 +1,29 @@
 -- What is seen of the blocks of a payload, by plain facts.
-use Prim.Native.Nat.{ℕ, _+_, _-_, _≤_, _<_}
+use Prim.Native.Nat.{ℕ, _+_, _-_, _≤_}
 use mathlib.Core.Path.{_≡_, _∙_, ap, sym}
 use mathlib.Core.List.{List, []}
 use mathlib.Core.Bool.{Bool, true, cond}
 use native.Mathlib.Omega.{arith}
 use lib.ListN.{length}
 use lib.Seq.{slice, length-slice}
-use borrow.Author.Tests.{lt-ltb, le-ltb}
 use Rattle.base.specs.Arrays.{filled}
 use Rattle.packet_spec.specs.Limits.{level}
-use Rattle.packet_spec.specs.Redundancy.{Head, heads, headers, total, areText}
+use Rattle.packet_spec.specs.Redundancy.{Head, Heads, heads, headers, total, areText}
 use Rattle.packet.specs.Places.{none}
+use Rattle.block_headers.specs.Seen.{headsWithin}
 use Rattle.blocks.specs.Placing.{headPlaces}
-use Rattle.blocks.specs.Seen.{Seen, refusedBlocks, placedBlocks, seenBehind, blocksOf}
+use Rattle.blocks.specs.Seen.{refusedBlocks, placedBlocks, seenBehind, blocksOf}
 use Rattle.packet_spec.proofs.Order.{past-21}
+use Rattle.block_headers.proofs.Within as Within
 
 module _ (plain : Bool) (t140 : ℕ) (p : List ℕ) (from end : ℕ) where
-  pub crossed : end < from → blocksOf plain t140 p from end ≡ refusedBlocks 17
+  pub behind : (h : Heads) → headsWithin plain t140 p from end ≡ h → blocksOf plain t140 p from end ≡ seenBehind end h
   unfolding blocksOf
-  crossed h = rw (lt-ltb end from h)
-
-  pub outside : from ≤ end → length p < end → blocksOf plain t140 p from end ≡ refusedBlocks 17
-  unfolding blocksOf
-  outside h k = rw (le-ltb end from h, lt-ltb (length p) end k)
+  behind h e = ap (seenBehind end) e
 
   pub inside : from ≤ end → end ≤ length p
       → blocksOf plain t140 p from end ≡ seenBehind end (cond plain (heads [] (slice from end p)) (headers t140 level [] (slice from end p)))
-  unfolding blocksOf
-  inside h k = rw (le-ltb end from h, le-ltb (length p) end k)
+  inside h k = behind (cond plain (heads [] (slice from end p)) (headers t140 level [] (slice from end p))) (Within.inside plain t140 p from end h k)
 
 -- blocks that fit and are text, from the place where the first lies
 module _ (p : List ℕ) (first end : ℕ) (hs : List Head) (ahead : first ≤ end) (within : end ≤ length p) where

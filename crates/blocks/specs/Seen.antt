@@ -2,19 +2,18 @@
 -- starts.
 use Prim.Native.Nat.{ℕ, _+_, _-_}
 use mathlib.Core.List.{List, []}
-use mathlib.Core.Bool.{Bool, cond, _||_}
-use lib.Dec.{ltb}
+use mathlib.Core.Bool.{Bool}
 use lib.ListN.{length}
-use lib.Seq.{slice}
 use Rattle.packet.specs.declared.Older.{Older}
 use Rattle.blocks.specs.declared.Blocks.{Blocks}
 use Rattle.base.specs.Arrays.{filled}
 use Rattle.base.specs.Checks.{checked}
 use Rattle.packet_spec.specs.Limits.{level}
-use Rattle.packet_spec.specs.Redundancy.{Head, Heads, heads, bad, headers, total}
+use Rattle.packet_spec.specs.Redundancy.{Head, Heads, heads, bad, total}
 use Rattle.packet_spec.specs.Reading.{blockChecks}
 use Rattle.packet.specs.Refusal.{outcomeNumber}
 use Rattle.packet.specs.Places.{none}
+use Rattle.block_headers.specs.Seen.{headsWithin}
 use Rattle.blocks.specs.Placing.{headPlaces}
 
 pub record Seen : Type 0 where
@@ -42,8 +41,6 @@ abbrev pub seenBehind : ℕ → Heads → Seen
 seenBehind end (bad n) = refusedBlocks n
 seenBehind end (heads hs s) = checked refusedBlocks (blockChecks hs s) (placedBlocks end hs s)
 
--- a plain payload, or one with block headers; 17 where the places do not lie within the packet
+-- a plain payload, or one with block headers
 unfoldable pub blocksOf : Bool → ℕ → List ℕ → ℕ → ℕ → Seen
-blocksOf plain t140 p from end =
-    cond (ltb end from || ltb (length p) end) (refusedBlocks 17)
-    (seenBehind end (cond plain (heads [] (slice from end p)) (headers t140 level [] (slice from end p))))
+blocksOf plain t140 p from end = seenBehind end (headsWithin plain t140 p from end)

@@ -1,20 +1,16 @@
-// The blocks of a payload (RFC 2198, section 3): their headers, where they lie, and whether they are text.
-mod headers;
+// The blocks of a payload (RFC 2198, section 3): where they lie, and whether they are text.
 mod placing;
 
 ghost use mathlib.Core.Path.{_≡_};
-ghost use mathlib.Core.List.{[]};
-ghost use mathlib.Core.Bool.{cond};
 ghost use Prim.Native.Nat.{_≤_};
 ghost use lib.ListN.{length};
 ghost use lib.Seq.{slice};
 ghost use Rattle.packet_spec.specs.Limits.{level};
 ghost use Rattle.packet_spec.specs.Redundancy as Heads;
 ghost use Rattle.packet.specs.Refusal.{number};
-ghost use Rattle.blocks.specs.Headers.{seenHeads, headsIn};
+ghost use Rattle.block_headers.specs.Seen.{seenHeads};
 ghost use Rattle.blocks.specs.Seen.{seen, refusedBlocks, seenBehind, blocksOf};
-use headers::Head;
-use headers::Headers;
+use block_headers::Head;
 use packet::Older;
 use packet::Outcome;
 use packet::Packet;
@@ -66,34 +62,11 @@ fn read_blocks(
     }
 }
 
-// There are none before a plain payload.
-fn headers_of(plain: bool, t140: u8, packet: &[u8], from: usize, end: usize) -> Headers
-    requires { ⌜ (from ≤ end) × (end ≤ length (now packet)) ⌝ }
-    ensures { λ r. ⌜ (headsIn (now (packet .entry)) end r ≡ cond plain (Heads.heads [] (slice from end (now (packet .entry)))) (Heads.headers t140 level [] (slice from end (now (packet .entry))))) × (r .count ≤ level) × (r .first ≤ end) ⌝ }
-{
-    if plain {
-        let none = Head { offset: 0, len: 0 };
-        return Headers {
-            outcome: Outcome::Accepted,
-            count: 0,
-            heads: [none; Packet::LEVEL],
-            first: from,
-        };
-    }
-    headers::read_headers(t140, packet, from, end)
-}
-
 // Reads the blocks of the payload that lies from `from` up to `end`.
 pub fn read(plain: bool, t140: u8, packet: &[u8], from: usize, end: usize) -> Blocks
     ensures { λ r. ⌜ seen r ≡ blocksOf plain t140 (now (packet .entry)) from end ⌝ }
 {
-    if end < from {
-        return refused(Refusal::BlockHeaders);
-    }
-    if packet.len() < end {
-        return refused(Refusal::BlockHeaders);
-    }
-    let headers = headers_of(plain, t140, packet, from, end);
+    let headers = block_headers::read(plain, t140, packet, from, end);
     let outcome = headers.outcome;
     match outcome {
         Outcome::Refused(refusal) => refused(refusal),

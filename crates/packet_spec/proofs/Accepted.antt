@@ -27,7 +27,7 @@ none-applies (k ∷ ks) x c e = go (k .applies) refl e (none-applies ks x c)
     go false q f r = ((q, r f .0), r f .1)
 
 -- what lies behind the headers is an end of the payload
-pub Behind : ℕ → List ℕ → Heads → Type 0
+unfoldable pub Behind : ℕ → List ℕ → Heads → Type 0
 Behind n m (bad k) = Unit {0}
 Behind n m (heads hs s) = (length hs ≤ n) × ((k : ℕ) × (s ≡ drop k m))
 
@@ -55,11 +55,12 @@ headers-behind n t (suc more) got m h =
     (headers-behind n t more (got ++ (headOf m ∷ [])) (drop 4 m) (omega (arith, length-append got (headOf m ∷ [])))))
     (λ _. tt)))
 
-pub heads-behind : (n t : ℕ) (p : List ℕ) → Behind n (payload p) (headsOf n t p)
+-- of a plain payload, or of one with headers
+pub heads-behind : (n t : ℕ) (plain : Bool) (m : List ℕ) → Behind n m (cond plain (heads [] m) (headers t n [] m))
 unfolding Behind
-heads-behind n t p =
-    by-test (Behind n (payload p)) (eqb (payloadType p) t) {x = heads [] (payload p)} (λ _. (omega arith, (0, refl)))
-    (λ _. headers-behind n t n [] (payload p) (omega arith))
+heads-behind n t plain m =
+    by-test (Behind n m) plain {x = heads [] m} (λ _. (omega arith, (0, refl)))
+    (λ _. headers-behind n t n [] m (omega arith))
 
 pub record Accepted (n : ℕ) (expected : Expected) (t140 red : ℕ) (p : List ℕ) (c : Content) : Type 0 where
   pub checks : NoneApplies (headerChecks expected t140 red p)
@@ -76,7 +77,7 @@ pub accepted : (n : ℕ) (expected : Expected) (t140 red : ℕ) (p : List ℕ) (
 unfolding reading Behind
 accepted n expected t140 red p c e =
     let w = none-applies (headerChecks expected t140 red p) (blocksRead p (headsOf n t140 p)) c e in
-    go (headsOf n t140 p) (heads-behind n t140 p) (w .0) (w .1)
+    go (headsOf n t140 p) (heads-behind n t140 (eqb (payloadType p) t140) (payload p)) (w .0) (w .1)
   where
     go : (h : Heads) → Behind n (payload p) h → NoneApplies (headerChecks expected t140 red p) → blocksRead p h ≡ holds c → Accepted n expected t140 red p c
     go (bad k) b w f = absurd (let z : _≡_ {A = ℕ} 0 1 = cc in omega arith)

@@ -1,6 +1,6 @@
 -- What is known of a packet that the reader accepts: its blocks fill the payload's end, they are text and few, and the packet
 -- has the source that was expected.
-use Prim.Native.Nat.{ℕ, zero, suc, _+_, _-_, _≤_}
+use Prim.Native.Nat.{ℕ, suc, _+_, _-_, _≤_}
 use mathlib.Core.Path.{_≡_, _∙_, refl, ap, sym, subst}
 use mathlib.Core.List.{List, [], _∷_}
 use mathlib.Core.Bool.{true}
@@ -14,7 +14,7 @@ use Rattle.packet_spec.specs.Limits.{longest}
 use Rattle.packet_spec.specs.Header.{Any, Only, Expected, headerEnd, payloadEnd, payload, sourceOf}
 use Rattle.packet_spec.specs.Redundancy.{Head, Block, olderOf, primaryOf, blocksOf, joined, allText}
 use Rattle.packet_spec.specs.Reading.{Content, Read, holds, inOrder, headerChecks, headsOf, content, blocksRead, reading, blocks, firstAt}
-use Rattle.base.proofs.Slices.{drop-slice}
+use Rattle.base.proofs.Slices.{drop-slice, slice-end}
 use Rattle.packet_spec.proofs.Payload.{payload-inside}
 use Rattle.base.proofs.InOrder.{NoneApplies}
 use Rattle.packet_spec.proofs.Accepted.{Accepted, accepted, none-applies}
@@ -28,24 +28,9 @@ pub older-length : (hs : List Head) (s : List ℕ) → length (olderOf hs s) ≡
 older-length [] s = refl
 older-length (h ∷ hs) s = ap suc (older-length hs (drop (h .len) s))
 
--- an end of a list, by its length
-end-of : (m : List ℕ) (k : ℕ) → drop (length m - length (drop k m)) m ≡ drop k m
-end-of m zero = let e : length m - length m ≡ 0 = omega arith in ap (λ (n : ℕ). drop n m) e
-end-of [] (suc k) = refl
-end-of (x ∷ m) (suc k) =
-    let l : length (drop k m) ≡ length m - k = length-drop k m in
-    let e : suc (length m) - length (drop k m) ≡ suc (length m - length (drop k m)) = omega arith in
-    ap (λ (n : ℕ). drop n (x ∷ m)) e ∙ end-of m k
-
 -- arithmetic of places
-least : (l m k : ℕ) → l ≡ m - k → l ≤ m
-least l m k e = omega arith
-
-within-end : (l m e h : ℕ) → m ≡ e - h → l ≤ m → l ≤ e
-within-end l m e h a b = omega arith
-
-behind-is : (h e m l : ℕ) → m ≡ e - h → h ≤ e → l ≤ m → h + (m - l) ≡ e - l
-behind-is h e m l a b c = omega arith
+within-end : (l m k e h : ℕ) → l ≡ m - k → m ≡ e - h → l ≤ e
+within-end l m k e h a b = omega arith
 
 pub record Lies (p : List ℕ) (c : Content) : Type 0 where
   pub inside : payloadEnd p ≤ length p
@@ -77,15 +62,11 @@ module _ (n : ℕ) (expected : Expected) (t140 red : ℕ) (p : List ℕ) (c : Co
       let lm : length m ≡ payloadEnd p - headerEnd p = length-slice (headerEnd p) (payloadEnd p) p i in
       let ls : length s ≡ length m - a .from = ap length (a .behind) ∙ length-drop (a .from) m in
       let lj : length (joined (blocks k)) ≡ length s = ap length (cut-joined hs s) in
-      let sm : length s ≤ length m = least (length s) (length m) (a .from) ls in
-      let se : length s ≤ payloadEnd p = within-end (length s) (length m) (payloadEnd p) (headerEnd p) lm sm in
-      let g : headerEnd p + (length m - length s) ≡ payloadEnd p - length s = behind-is (headerEnd p) (payloadEnd p) (length m) (length s) lm h sm in
+      let se : length s ≤ payloadEnd p = within-end (length s) (length m) (a .from) (payloadEnd p) (headerEnd p) ls lm in
       let fill : slice (firstAt p k) (payloadEnd p) p ≡ joined (blocks k) =
       ap (λ (j : ℕ). slice (payloadEnd p - j) (payloadEnd p) p) lj
-      ∙ ap (λ (j : ℕ). slice j (payloadEnd p) p) (sym g)
-      ∙ sym (drop-slice (headerEnd p) (payloadEnd p) p (length m - length s))
-      ∙ ap (λ (l : List ℕ). drop (length m - length l) m) (a .behind)
-      ∙ end-of m (a .from)
+      ∙ ap (λ (l : List ℕ). slice (payloadEnd p - length l) (payloadEnd p) p) (a .behind)
+      ∙ slice-end (headerEnd p) (payloadEnd p) p (a .from) h i
       ∙ sym (a .behind)
       ∙ sym (cut-joined hs s) in
       subst (Lies p) (sym (a .is)) (record { inside = i; room = omega arith; fill = fill })

@@ -1,6 +1,7 @@
 -- A reading that is refused has a number of 01, never 0.
 use Prim.Native.Nat.{ℕ, zero, suc, _-_, _≤_}
 use mathlib.Core.List.{List, [], _∷_, _++_}
+use mathlib.Core.Bool.{Bool, cond}
 use native.Mathlib.Omega.{arith}
 use lib.Dec.{ltb, eqb}
 use lib.ListN.{length, getD, drop}
@@ -16,7 +17,7 @@ abbrev pub Positive : Read → Type 0
 Positive (holds c) = Unit {0}
 Positive (refused n) = 1 ≤ n
 
-abbrev HeadsPositive : Heads → Type 0
+abbrev pub HeadsPositive : Heads → Type 0
 HeadsPositive (heads hs s) = Unit {0}
 HeadsPositive (bad n) = 1 ≤ n
 
@@ -41,6 +42,10 @@ headers-positive t (suc more) got m =
     (λ _. headers-positive t more (got ++ (headOf m ∷ [])) (drop 4 m))
     (λ _. omega arith)))
 
+-- of a plain payload, or of one with headers
+pub heads-positive : (n t : ℕ) (plain : Bool) (m : List ℕ) → HeadsPositive (cond plain (heads [] m) (headers t n [] m))
+heads-positive n t plain m = by-test HeadsPositive plain {x = heads [] m} (λ _. tt) (λ _. headers-positive t n [] m)
+
 blocks-positive : (p : List ℕ) (h : Heads) → HeadsPositive h → Positive (blocksRead p h)
 blocks-positive p (bad n) k = k
 blocks-positive p (heads hs s) k = in-order (blockChecks hs s) (holds (content p hs s)) (search needs) tt
@@ -50,5 +55,4 @@ unfolding reading
 reading-positive n expected t140 red p =
     in-order (headerChecks expected t140 red p) (blocksRead p (headsOf n t140 p))
     (search needs)
-    (blocks-positive p (headsOf n t140 p)
-    (by-test HeadsPositive (eqb (payloadType p) t140) {x = heads [] (payload p)} (λ _. tt) (λ _. headers-positive t140 n [] (payload p))))
+    (blocks-positive p (headsOf n t140 p) (heads-positive n t140 (eqb (payloadType p) t140) (payload p)))

@@ -1,76 +1,59 @@
-use mathlib.Core.Path.{_≡_, _∙_, ap, sym}
+use mathlib.Core.Path.{_∙_, sym}
 use lib.Seq.{slice}
 use borrow.Author.Needs.{needs}
 use denote.Ref.{now}
-use Rattle.packet.specs.declared.Outcome.{Outcome}
-use Rattle.packet_spec.specs.Redundancy.{heads}
-use Rattle.blocks.specs.Headers.{seenHeads, byOutcome}
-use Rattle.blocks.specs.Seen.{seenBehind}
-use Rattle.blocks.proofs.Whole.{crossed, outside, inside}
+use Rattle.packet.specs.Refusal.{number}
+use Rattle.packet_spec.specs.Redundancy.{heads, bad}
+use Rattle.block_headers.specs.Seen.{seenHeads}
+use Rattle.block_headers.proofs.Told.{refused-told, accepted-told}
+use Rattle.blocks.proofs.Whole.{behind}
 use Rattle.blocks.proofs.read.Statement.{statement}
 use Rattle.blocks.proofs.read.Tie as tie
 
-refused-requires : tie.Need-refused-requires
-refused-requires c κs = search needs
-
-returns : tie.Need-returns
-returns c = let a = c .before .before .before .args in c .refused .ensures ∙ sym (crossed (a .plain) (a .t140) (now (a .packet)) (a .from) (a .end) (c .before .if1 .taken))
-
-refused-requires-2 : tie.Need-refused-requires-2
-refused-requires-2 c κs = search needs
-
-returns-2 : tie.Need-returns-2
-returns-2 c =
-    let a = c .before .before .before .before .args in
-    c .refused2 .ensures ∙ sym (outside (a .plain) (a .t140) (now (a .packet)) (a .from) (a .end) (c .before .before .if1 .left) (c .before .if2 .taken))
-
-headers-of-requires : tie.Need-headers-of-requires
-headers-of-requires c κs = search needs
+read-requires : tie.Need-read-requires
+read-requires c κs = search needs
 
 enum-known-outcome : tie.Need-enum-known-outcome
 enum-known-outcome c = search needs
 
-refused-requires-3 : tie.Need-refused-requires-3
-refused-requires-3 c κs = search needs
+refused-requires : tie.Need-refused-requires
+refused-requires c κs = search needs
 
 enum-told : tie.Need-enum-told
 enum-told c = search needs
 
 read-blocks-requires : tie.Need-read-blocks-requires
-read-blocks-requires c κs = search needs
+read-blocks-requires c κs =
+    let q = c .before .before .before in
+    let a = q .before .before .args in
+    let t = accepted-told (a .plain) (a .t140) (now (a .packet)) (a .from) (a .end) (q .read .result) (q .read .ensures) (c .before .enum-told .given .1) in
+    (t .1, t .2, t .3)
 
-returns-3 : tie.Need-returns-3
-returns-3 c =
+returns : tie.Need-returns
+returns c =
     let q = c .before .before .before .before in
-    let a = q .before .before .before .before .args in
-    let p = now (a .packet) in
-    let r = q .headers-of .result in
-    c .refused3 .ensures
-    ∙ sym (inside (a .plain) (a .t140) p (a .from) (a .end) (q .before .before .if1 .left) (q .before .if2 .left)
-    ∙ ap (seenBehind (a .end)) (sym (q .headers-of .ensures .0) ∙ ap (λ (o : Outcome). byOutcome o (heads (seenHeads (r .count) (r .heads)) (slice (r .first) (a .end) p))) (c .before .before .outcome .given .1)))
+    let a = q .before .before .args in
+    let k = c .before .before .outcome .given in
+    c .refused .ensures
+    ∙ sym (behind (a .plain) (a .t140) (now (a .packet)) (a .from) (a .end) (bad (number (k .0 .0))) (refused-told (a .plain) (a .t140) (now (a .packet)) (a .from) (a .end) (q .read .result) (q .read .ensures) (k .0 .0) (k .1)))
 
-returns-4 : tie.Need-returns-4
-returns-4 c =
+returns-2 : tie.Need-returns-2
+returns-2 c =
     let q = c .before .before .before .before in
-    let a = q .before .before .before .before .args in
+    let a = q .before .before .args in
     let p = now (a .packet) in
-    let r = q .headers-of .result in
+    let r = q .read .result in
     c .read-blocks .ensures
-    ∙ sym (inside (a .plain) (a .t140) p (a .from) (a .end) (q .before .before .if1 .left) (q .before .if2 .left)
-    ∙ ap (seenBehind (a .end)) (sym (q .headers-of .ensures .0) ∙ ap (λ (o : Outcome). byOutcome o (heads (seenHeads (r .count) (r .heads)) (slice (r .first) (a .end) p))) (c .before .before .enum-told .given .1)))
+    ∙ sym (behind (a .plain) (a .t140) p (a .from) (a .end) (heads (seenHeads (r .count) (r .heads)) (slice (r .first) (a .end) p)) (accepted-told (a .plain) (a .t140) p (a .from) (a .end) r (q .read .ensures) (c .before .before .enum-told .given .1) .0))
 
 pub read-spec : {M : Type 1} → statement M
 read-spec =
     tie.close
     (tie.spec
-    refused-requires
-    returns
-    refused-requires-2
-    returns-2
-    headers-of-requires
+    read-requires
     enum-known-outcome
-    refused-requires-3
+    refused-requires
     enum-told
     read-blocks-requires
-    returns-3
-    returns-4)
+    returns
+    returns-2)

@@ -11,7 +11,7 @@ use Rattle.packet.specs.declared.Refusal.{Refusal}
 use Rattle.blocks.specs.declared.Blocks.{Blocks}
 use Rattle.packet.specs.Refusal.{number}
 use Rattle.packet_spec.specs.Redundancy.{total, areText}
-use Rattle.blocks.specs.Headers.{seenHead, seenHeads}
+use Rattle.block_headers.specs.Seen.{seenHead, seenHeads}
 use Rattle.base.specs.Arrays.{filled}
 use Rattle.packet_spec.specs.Limits.{level}
 use Rattle.packet.specs.Places.{none}

@@ -6,8 +6,8 @@ use lib.Seq.{slice}
 use borrow.Author.Needs.{needs}
 use denote.Ref.{now}
 use Rattle.base.proofs.Slices.{getD-slice}
-use Rattle.blocks.proofs.headers.head_at.Statement.{statement}
-use Rattle.blocks.proofs.headers.head_at.Tie as tie
+use Rattle.block_headers.proofs.head_at.Statement.{statement}
+use Rattle.block_headers.proofs.head_at.Tie as tie
 
 add-wide16 : tie.Need-add-wide16
 add-wide16 c = search needs

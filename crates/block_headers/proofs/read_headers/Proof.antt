@@ -4,29 +4,30 @@ use mathlib.Core.List.{List, [], _∷_, _++_, map}
 use native.Mathlib.Omega.{arith}
 use native.Mathlib.Numerals.{add-one}
 use lib.ListN.{length, take, set, length-set, length-map}
-use lib.Seq.{slice, take-suc-set}
+use lib.Seq.{slice, length-slice, length-take-le, take-suc-set}
 use borrow.Author.Needs.{needs}
 use denote.Ref.{now}
-use Rattle.packet.specs.declared.Outcome.{Outcome}
-use Rattle.packet_spec.specs.Redundancy.{Head}
 use Rattle.packet_spec.specs.Limits.{level}
-use Rattle.packet_spec.specs.Redundancy.{heads, headers}
-use Rattle.blocks.specs.Headers.{seenHead, seenHeads, byOutcome}
+use Rattle.packet_spec.specs.Redundancy.{Head, headers}
+use Rattle.base.specs.Arrays.{filled}
+use Rattle.block_headers.specs.Seen.{seenHead, seenHeads, noHead, seenBefore}
+use Rattle.base.proofs.Filled.{filled-more}
 use Rattle.base.proofs.Maps.{map-set}
 use Rattle.packet_spec.proofs.Heads.{at-end, at-last-other, at-last, at-too-many, at-cut-short, at-older-other, at-one-more}
-use Rattle.blocks.proofs.headers.read_headers.Statement.{statement}
-use Rattle.blocks.proofs.headers.read_headers.Tie as tie
+use Rattle.block_headers.proofs.read_headers.Statement.{statement}
+use Rattle.block_headers.proofs.read_headers.Tie as tie
 
 abbrev Inv-loop : tie.InvT-loop
 Inv-loop t140 packet from end array₀ count₀ at₀ array count at =
     (count ≤ level) × (at ≤ end) × (length array ≡ level)
+    × (map seenHead array ≡ filled (seenHead noHead) level (seenHeads count array))
     × (headers t140 level [] (slice from end packet) ≡ headers t140 (level - count) (seenHeads count array) (slice at end packet))
 
 abbrev μ-loop : tie.MeasureT-loop
 μ-loop t140 packet from end array₀ count₀ at₀ array count at = level - count
 
 loop-holds : tie.Need-loop-holds Inv-loop μ-loop
-loop-holds c = (search needs, search needs, refl, refl)
+loop-holds c = (search needs, search needs, refl, refl, refl)
 
 refused-requires : tie.Need-refused-requires Inv-loop μ-loop
 refused-requires c κs = search needs
@@ -35,14 +36,9 @@ returns : tie.Need-returns Inv-loop μ-loop
 returns c =
     let a = c .before .before .before .before .args in
     let l = c .before .before .loop in
-    let p = now (a .packet) in
     let hs = seenHeads (l .count) (l .heads) in
-    let r = c .refused .result in (
-      ap (λ (o : Outcome). byOutcome o (heads (seenHeads (r .count) (r .heads)) (slice (r .first) (a .end) p))) (c .refused .ensures .0)
-          ∙ sym (l .inv .3 ∙ at-end (a .t140) (level - l .count) hs p (l .at) (a .end) (c .before .if1 .taken)),
-      c .refused .ensures .1,
-      omega (arith, c .refused .ensures .2),
-    )
+    c .refused .ensures
+    ∙ ap (seenBefore (a .end)) (sym (l .inv .4 ∙ at-end (a .t140) (level - l .count) hs (now (a .packet)) (l .at) (a .end) (c .before .if1 .taken)))
 
 shared-slice-read-b : tie.Need-shared-slice-read-b Inv-loop μ-loop
 shared-slice-read-b c = search needs
@@ -54,14 +50,10 @@ returns-2 : tie.Need-returns-2 Inv-loop μ-loop
 returns-2 c =
     let a = c .before .before .before .before .before .before .before .args in
     let l = c .before .before .before .before .before .loop in
-    let p = now (a .packet) in
     let hs = seenHeads (l .count) (l .heads) in
-    let r = c .refused2 .result in (
-      ap (λ (o : Outcome). byOutcome o (heads (seenHeads (r .count) (r .heads)) (slice (r .first) (a .end) p))) (c .refused2 .ensures .0)
-          ∙ sym (l .inv .3 ∙ at-last-other (a .t140) hs p (l .at) (a .end) (c .before .before .before .before .if1 .left) (search needs) (level - l .count) (c .before .before .if2 .taken) (c .before .if3 .taken)),
-      c .refused2 .ensures .1,
-      omega (arith, c .refused2 .ensures .2),
-    )
+    c .refused2 .ensures
+    ∙ ap (seenBefore (a .end))
+    (sym (l .inv .4 ∙ at-last-other (a .t140) hs (now (a .packet)) (l .at) (a .end) (c .before .before .before .before .if1 .left) (search needs) (level - l .count) (c .before .before .if2 .taken) (c .before .if3 .taken)))
 
 add-t19 : tie.Need-add-t19 Inv-loop μ-loop
 add-t19 c = search needs
@@ -71,12 +63,12 @@ returns-3 c =
     let a = c .before .before .before .before .before .before .args in
     let l = c .before .before .before .before .loop in
     let p = now (a .packet) in
-    let hs = seenHeads (l .count) (l .heads) in (
-      sym (l .inv .3 ∙ at-last (a .t140) hs p (l .at) (a .end) (c .before .before .before .if1 .left) (search needs) (level - l .count) (c .before .if2 .taken) (c .if3 .left)
-          ∙ ap (λ (k : ℕ). heads hs (slice k (a .end) p)) (sym (add-one (l .at)))),
-      l .inv .0,
-      omega arith,
-    )
+    let hs = seenHeads (l .count) (l .heads) in
+    let n : l .count ≡ length hs = sym (length-take-le (l .count) (map seenHead (l .heads)) (omega (arith, length-map (l .heads) seenHead))) in
+    let f : l .at + 1 ≡ a .end - length (slice (suc (l .at)) (a .end) p) = omega (arith, length-slice (suc (l .at)) (a .end) p (search needs)) in
+    (λ i. record { number = 0; count = n i; heads = l .inv .3 i; first = f i })
+    ∙ ap (seenBefore (a .end))
+    (sym (l .inv .4 ∙ at-last (a .t140) hs p (l .at) (a .end) (c .before .before .before .if1 .left) (search needs) (level - l .count) (c .before .if2 .taken) (c .if3 .left)))
 
 refused-requires-3 : tie.Need-refused-requires-3 Inv-loop μ-loop
 refused-requires-3 c κs = search needs
@@ -88,13 +80,10 @@ returns-4 c =
     let p = now (a .packet) in
     let hs = seenHeads (l .count) (l .heads) in
     let n : level - l .count ≡ 0 = omega arith in
-    let r = c .refused3 .result in (
-      ap (λ (o : Outcome). byOutcome o (heads (seenHeads (r .count) (r .heads)) (slice (r .first) (a .end) p))) (c .refused3 .ensures .0)
-          ∙ sym (l .inv .3 ∙ ap (λ (m : ℕ). headers (a .t140) m hs (slice (l .at) (a .end) p)) n
-          ∙ at-too-many (a .t140) hs p (l .at) (a .end) (c .before .before .before .before .if1 .left) (search needs) (c .before .before .if2 .left)),
-      c .refused3 .ensures .1,
-      omega (arith, c .refused3 .ensures .2),
-    )
+    c .refused3 .ensures
+    ∙ ap (seenBefore (a .end))
+    (sym (l .inv .4 ∙ ap (λ (m : ℕ). headers (a .t140) m hs (slice (l .at) (a .end) p)) n
+    ∙ at-too-many (a .t140) hs p (l .at) (a .end) (c .before .before .before .before .if1 .left) (search needs) (c .before .before .if2 .left)))
 
 add-if5 : tie.Need-add-if5 Inv-loop μ-loop
 add-if5 c = search needs
@@ -109,13 +98,10 @@ returns-5 c =
     let p = now (a .packet) in
     let hs = seenHeads (l .count) (l .heads) in
     let n : level - l .count ≡ suc (level - (l .count + 1)) = omega arith in
-    let r = c .refused4 .result in (
-      ap (λ (o : Outcome). byOutcome o (heads (seenHeads (r .count) (r .heads)) (slice (r .first) (a .end) p))) (c .refused4 .ensures .0)
-          ∙ sym (l .inv .3 ∙ ap (λ (m : ℕ). headers (a .t140) m hs (slice (l .at) (a .end) p)) n
-          ∙ at-cut-short (a .t140) hs p (l .at) (a .end) (c .before .before .before .before .before .if1 .left) (search needs) (c .before .before .before .if2 .left) (level - (l .count + 1)) (c .before .if5 .taken)),
-      c .refused4 .ensures .1,
-      omega (arith, c .refused4 .ensures .2),
-    )
+    c .refused4 .ensures
+    ∙ ap (seenBefore (a .end))
+    (sym (l .inv .4 ∙ ap (λ (m : ℕ). headers (a .t140) m hs (slice (l .at) (a .end) p)) n
+    ∙ at-cut-short (a .t140) hs p (l .at) (a .end) (c .before .before .before .before .before .if1 .left) (search needs) (c .before .before .before .if2 .left) (level - (l .count + 1)) (c .before .if5 .taken)))
 
 refused-requires-5 : tie.Need-refused-requires-5 Inv-loop μ-loop
 refused-requires-5 c κs = search needs
@@ -127,13 +113,10 @@ returns-6 c =
     let p = now (a .packet) in
     let hs = seenHeads (l .count) (l .heads) in
     let n : level - l .count ≡ suc (level - (l .count + 1)) = omega arith in
-    let r = c .refused5 .result in (
-      ap (λ (o : Outcome). byOutcome o (heads (seenHeads (r .count) (r .heads)) (slice (r .first) (a .end) p))) (c .refused5 .ensures .0)
-          ∙ sym (l .inv .3 ∙ ap (λ (m : ℕ). headers (a .t140) m hs (slice (l .at) (a .end) p)) n
-          ∙ at-older-other (a .t140) hs p (l .at) (a .end) (c .before .before .before .before .before .before .if1 .left) (search needs) (c .before .before .before .before .if2 .left) (c .before .before .if5 .left) (level - (l .count + 1)) (c .before .if6 .taken)),
-      c .refused5 .ensures .1,
-      omega (arith, c .refused5 .ensures .2),
-    )
+    c .refused5 .ensures
+    ∙ ap (seenBefore (a .end))
+    (sym (l .inv .4 ∙ ap (λ (m : ℕ). headers (a .t140) m hs (slice (l .at) (a .end) p)) n
+    ∙ at-older-other (a .t140) hs p (l .at) (a .end) (c .before .before .before .before .before .before .if1 .left) (search needs) (c .before .before .before .before .if2 .left) (c .before .before .if5 .left) (level - (l .count + 1)) (c .before .if6 .taken)))
 
 head-at-requires : tie.Need-head-at-requires Inv-loop μ-loop
 head-at-requires c κs = search needs
@@ -163,6 +146,7 @@ loop-again c =
     let h = c .head-at .result in
     let all = map seenHead (l .heads) in
     let size : l .count < length all = omega (arith, length-map (l .heads) seenHead) in
+    let z : length hs ≡ l .count = length-take-le (l .count) all (omega arith) in
     let more : seenHeads (l .count + 1) (set (l .heads) (l .count) h) ≡ hs ++ (seenHead h ∷ []) =
     ap (λ (k : ℕ). seenHeads k (set (l .heads) (l .count) h)) (add-one (l .count))
     ∙ ap (take (suc (l .count))) (map-set seenHead (l .heads) (l .count) h)
@@ -170,7 +154,12 @@ loop-again c =
       search needs,
       search needs,
       length-set (l .heads) (l .count) h ∙ l .inv .2,
-      l .inv .3 ∙ ap (λ (m : ℕ). headers (a .t140) m hs (slice (l .at) (a .end) p)) n
+      map-set seenHead (l .heads) (l .count) h
+          ∙ ap (λ (x : List Head). set x (l .count) (seenHead h)) (l .inv .3)
+          ∙ ap (λ (j : ℕ). set (filled (seenHead noHead) level hs) j (seenHead h)) (sym z)
+          ∙ filled-more (seenHead noHead) level hs (seenHead h) (omega arith)
+          ∙ ap (filled (seenHead noHead) level) (sym more),
+      l .inv .4 ∙ ap (λ (m : ℕ). headers (a .t140) m hs (slice (l .at) (a .end) p)) n
           ∙ at-one-more (a .t140) hs p (l .at) (a .end) (c .before .before .before .before .before .before .if1 .left) (search needs) (c .before .before .before .before .if2 .left) (c .before .before .if5 .left) (level - (l .count + 1)) (c .before .if6 .left)
           ∙ ap (λ (x : Head). headers (a .t140) (level - (l .count + 1)) (hs ++ (x ∷ [])) (slice (l .at + 4) (a .end) p)) (sym (c .head-at .ensures))
           ∙ ap (λ (x : List Head). headers (a .t140) (level - (l .count + 1)) x (slice (l .at + 4) (a .end) p)) (sym more),

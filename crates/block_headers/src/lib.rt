@@ -1,12 +1,13 @@
-// The block headers of a redundant payload (RFC 2198, section 3).
+// The block headers of a payload (RFC 2198, section 3).
 ghost use mathlib.Core.Path.{_≡_};
 ghost use mathlib.Core.List.{[]};
 ghost use Prim.Native.Nat.{_+_, _≤_};
 ghost use lib.ListN.{length};
 ghost use lib.Seq.{slice};
 ghost use Rattle.packet_spec.specs.Limits.{level};
-ghost use Rattle.packet_spec.specs.Redundancy.{headOf, headers};
-ghost use Rattle.blocks.specs.Headers.{seenHead, headsIn};
+ghost use Rattle.packet_spec.specs.Redundancy as Heads;
+ghost use Rattle.packet.specs.Refusal.{number};
+ghost use Rattle.block_headers.specs.Seen.{seenHead, seen, refusedHeads, seenBefore, headersOf};
 use packet::Outcome;
 use packet::Packet;
 use packet::Refusal;
@@ -17,7 +18,8 @@ pub struct Head {
     pub len: u16,
 }
 
-// What the headers say: the older blocks, and where the oldest starts.
+// What the headers say: the older blocks, of which the first `count` count, and where the oldest starts. All zeros where they
+// are refused.
 pub struct Headers {
     pub outcome: Outcome,
     pub count: usize,
@@ -27,7 +29,7 @@ pub struct Headers {
 
 fn head_at(packet: &[u8], at: usize, end: usize) -> Head
     requires { ⌜ (at + 4 ≤ end) × (end ≤ length (now packet)) ⌝ }
-    ensures { λ r. ⌜ seenHead r ≡ headOf (slice at end (now (packet .entry))) ⌝ }
+    ensures { λ r. ⌜ seenHead r ≡ Heads.headOf (slice at end (now (packet .entry))) ⌝ }
 {
     let x = numbers::wide16(packet[at + 1]);
     let y = numbers::wide16(packet[at + 2]);
@@ -39,7 +41,7 @@ fn head_at(packet: &[u8], at: usize, end: usize) -> Head
 }
 
 fn refused(refusal: Refusal) -> Headers
-    ensures { λ r. ⌜ (r .outcome ≡ Outcome.Refused refusal) × (r .count ≤ level) × (r .first ≤ 0) ⌝ }
+    ensures { λ r. ⌜ seen r ≡ refusedHeads (number refusal) ⌝ }
 {
     let none = Head { offset: 0, len: 0 };
     Headers {
@@ -50,10 +52,10 @@ fn refused(refusal: Refusal) -> Headers
     }
 }
 
-// The headers of the payload that lies from `from` up to `end`.
-pub fn read_headers(t140: u8, packet: &[u8], from: usize, end: usize) -> Headers
+// Of a redundant payload.
+fn read_headers(t140: u8, packet: &[u8], from: usize, end: usize) -> Headers
     requires { ⌜ (from ≤ end) × (end ≤ length (now packet)) ⌝ }
-    ensures { λ r. ⌜ (headsIn (now (packet .entry)) end r ≡ headers t140 level [] (slice from end (now (packet .entry)))) × (r .count ≤ level) × (r .first ≤ end) ⌝ }
+    ensures { λ r. ⌜ seen r ≡ seenBefore end (Heads.headers t140 level [] (slice from end (now (packet .entry)))) ⌝ }
 {
     let none = Head { offset: 0, len: 0 };
     let mut heads = [none; Packet::LEVEL];
@@ -89,4 +91,26 @@ pub fn read_headers(t140: u8, packet: &[u8], from: usize, end: usize) -> Headers
         count += 1;
         at += 4;
     }
+}
+
+// Reads the headers of the payload that lies from `from` up to `end`; there are none before a plain one.
+pub fn read(plain: bool, t140: u8, packet: &[u8], from: usize, end: usize) -> Headers
+    ensures { λ r. ⌜ seen r ≡ headersOf plain t140 (now (packet .entry)) from end ⌝ }
+{
+    if end < from {
+        return refused(Refusal::BlockHeaders);
+    }
+    if packet.len() < end {
+        return refused(Refusal::BlockHeaders);
+    }
+    if plain {
+        let none = Head { offset: 0, len: 0 };
+        return Headers {
+            outcome: Outcome::Accepted,
+            count: 0,
+            heads: [none; Packet::LEVEL],
+            first: from,
+        };
+    }
+    read_headers(t140, packet, from, end)
 }
