@@ -1,21 +1,18 @@
 // The packet header (RFC 3550, section 5.1): checks 3 and 10 to 16, the fixed fields, and where the payload lies.
-mod places;
-
 ghost use mathlib.Core.Path.{_≡_};
 ghost use Prim.Native.Nat.{_≤_};
 ghost use lib.ListN.{length, drop};
 ghost use Rattle.base.specs.Checks.{checked};
-ghost use Rattle.packet_spec.specs.Limits.{shortest, longest};
-ghost use Rattle.packet_spec.specs.Header.{typesBad, headerEnd, payloadEnd};
+ghost use Rattle.packet_spec.specs.Limits.{shortest};
+ghost use Rattle.packet_spec.specs.Header as Fields;
+ghost use Rattle.packet_spec.specs.Header.{typesBad, otherType, otherSource, headerEnd, payloadEnd};
 ghost use Rattle.packet_spec.specs.Reading.{headerChecks};
 ghost use Rattle.packet.specs.Refusal.{number};
 ghost use Rattle.packet.specs.Places.{sourceOf};
 ghost use Rattle.header.specs.Seen.{seen, refusedHeader, passedHeader, headerOf};
 use packet::Expected;
 use packet::Outcome;
-use packet::Packet;
 use packet::Refusal;
-use places::Place;
 
 // Whether the payload is plain, of type T140; the fixed fields; where the payload starts, and where it ends before the padding.
 // All zeros where the header is refused.
@@ -64,6 +61,34 @@ fn refused(refusal: Refusal) -> Header
     }
 }
 
+fn other_type(t140: u8, red: u8, packet: &[u8]) -> bool
+    requires { ⌜ shortest ≤ length (now packet) ⌝ }
+    ensures { λ r. ⌜ r ≡ otherType t140 red (now (packet .entry)) ⌝ }
+{
+    let kind = packet[1] % 128;
+    if kind == t140 {
+        return false;
+    }
+    kind != red
+}
+
+fn source_of(packet: &[u8]) -> u32
+    requires { ⌜ shortest ≤ length (now packet) ⌝ }
+    ensures { λ r. ⌜ r ≡ Fields.sourceOf (now (packet .entry)) ⌝ }
+{
+    numbers::be32(packet[8], packet[9], packet[10], packet[11])
+}
+
+fn other_source(expected: Expected, packet: &[u8]) -> bool
+    requires { ⌜ shortest ≤ length (now packet) ⌝ }
+    ensures { λ r. ⌜ r ≡ otherSource (sourceOf expected) (now (packet .entry)) ⌝ }
+{
+    match expected {
+        Expected::Any => false,
+        Expected::Only(source) => source_of(packet) != source,
+    }
+}
+
 // Checks 15 and 16, of a payload that lies from `from` up to `end`.
 fn read_fields(
     expected: Expected,
@@ -76,10 +101,10 @@ fn read_fields(
     requires { ⌜ (shortest ≤ length (now packet)) × (from ≡ headerEnd (now packet)) × (end ≡ payloadEnd (now packet)) ⌝ }
     ensures { λ r. ⌜ seen r ≡ checked refusedHeader (drop 6 (headerChecks (sourceOf expected) t140 red (now (packet .entry)))) (passedHeader t140 (now (packet .entry))) ⌝ }
 {
-    if places::other_type(t140, red, packet) {
+    if other_type(t140, red, packet) {
         return refused(Refusal::PayloadType);
     }
-    if places::other_source(expected, packet) {
+    if other_source(expected, packet) {
         return refused(Refusal::Source);
     }
     let kind = packet[1] % 128;
@@ -88,25 +113,11 @@ fn read_fields(
         outcome: Outcome::Accepted,
         plain: kind == t140,
         marker,
-        sequence: places::u16_at(packet, 2),
-        timestamp: places::u32_at(packet, 4),
-        source: places::u32_at(packet, 8),
+        sequence: numbers::be16(packet[2], packet[3]),
+        timestamp: numbers::be32(packet[4], packet[5], packet[6], packet[7]),
+        source: source_of(packet),
         from,
         end,
-    }
-}
-
-// Checks 13 to 16.
-fn read_rest(expected: Expected, t140: u8, red: u8, packet: &[u8]) -> Header
-    requires { ⌜ (shortest ≤ length (now packet)) × (length (now packet) ≤ longest) ⌝ }
-    ensures { λ r. ⌜ seen r ≡ checked refusedHeader (drop 4 (headerChecks (sourceOf expected) t140 red (now (packet .entry)))) (passedHeader t140 (now (packet .entry))) ⌝ }
-{
-    match places::start(packet) {
-        Place::Past => refused(Refusal::Header),
-        Place::At(from) => match places::end(packet, from) {
-            Place::Past => refused(Refusal::Padding),
-            Place::At(end) => read_fields(expected, t140, red, packet, from, end),
-        },
     }
 }
 
@@ -117,14 +128,10 @@ pub fn read(expected: Expected, t140: u8, red: u8, packet: &[u8]) -> Header
     if types_bad(t140, red) {
         return refused(Refusal::PayloadTypes);
     }
-    if packet.len() < Packet::SHORTEST {
-        return refused(Refusal::Short);
+    let layout = layout::read(packet);
+    let outcome = layout.outcome;
+    match outcome {
+        Outcome::Refused(refusal) => refused(refusal),
+        Outcome::Accepted => { read_fields(expected, t140, red, packet, layout.from, layout.end) }
     }
-    if Packet::LONGEST < packet.len() {
-        return refused(Refusal::Long);
-    }
-    if packet[0] / 64 != 2 {
-        return refused(Refusal::Version);
-    }
-    read_rest(expected, t140, red, packet)
 }

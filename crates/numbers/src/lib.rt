@@ -1,6 +1,6 @@
-// Small numbers: the lesser of two, and bytes as wider numbers.
+// Small numbers: the lesser of two, bytes as wider numbers, and the numbers that bytes make, the highest first.
 ghost use mathlib.Core.Path.{_≡_};
-ghost use Prim.Native.Nat.{_<_, min};
+ghost use Prim.Native.Nat.{_+_, _*_, _<_, min};
 
 pub fn least(a: usize, b: usize) -> usize
     ensures { λ r. ⌜ r ≡ min a b ⌝ }
@@ -27,4 +27,16 @@ pub fn wide(x: u8) -> usize
     ensures { λ r. ⌜ (r ≡ x) × (r < 256) ⌝ }
 {
     x as usize
+}
+
+pub fn be16(x: u8, y: u8) -> u16
+    ensures { λ r. ⌜ r ≡ x * 256 + y ⌝ }
+{
+    wide16(x) * 256 + wide16(y)
+}
+
+pub fn be32(x: u8, y: u8, z: u8, w: u8) -> u32
+    ensures { λ r. ⌜ r ≡ ((x * 256 + y) * 256 + z) * 256 + w ⌝ }
+{
+    ((wide32(x) * 256 + wide32(y)) * 256 + wide32(z)) * 256 + wide32(w)
 }

@@ -12,7 +12,36 @@ use Rattle.packet_spec.specs.Limits.{shortest, longest}
 use Rattle.packet_spec.specs.Header.{version, headerEnd, paddingBad, typesBad, otherType, otherSource}
 use Rattle.packet_spec.specs.Redundancy.{total, areText}
 use Rattle.base.specs.Checks.{checked}
-use Rattle.packet_spec.specs.Reading.{headerChecks, blockChecks}
+use Rattle.packet_spec.specs.Reading.{headerChecks, layoutChecks, blockChecks}
+
+module _ {A : Type 0} (refuse : ℕ → A) (p : List ℕ) (x : A) where
+  -- checks 10 to 14, from the n-th on
+  abbrev pub layoutFrom : ℕ → A
+  layoutFrom n = checked refuse (drop n (layoutChecks p)) x
+
+  pub gives-10 : length p < shortest → layoutFrom 0 ≡ refuse 10
+  gives-10 h = rw (lt-ltb (length p) shortest h)
+
+  module _ (long : shortest ≤ length p) where
+    pub gives-11 : longest < length p → layoutFrom 0 ≡ refuse 11
+    gives-11 h = rw (le-ltb (length p) shortest long, lt-ltb longest (length p) h)
+
+    module _ (short : length p ≤ longest) where
+      pub gives-12 : (version p ≡ 2 → ⊥) → layoutFrom 0 ≡ refuse 12
+      gives-12 f = rw (le-ltb (length p) shortest long, le-ltb longest (length p) short, ne-eqb (version p) 2 f)
+
+      pub past-12 : version p ≡ 2 → layoutFrom 0 ≡ layoutFrom 3
+      past-12 e = rw (le-ltb (length p) shortest long, le-ltb longest (length p) short, eq-eqb (version p) 2 e)
+
+  pub gives-13 : ltb (length p) (headerEnd p) ≡ true → layoutFrom 3 ≡ refuse 13
+  gives-13 e = rw e
+
+  module _ (header : ltb (length p) (headerEnd p) ≡ false) where
+    pub gives-14 : paddingBad p ≡ true → layoutFrom 3 ≡ refuse 14
+    gives-14 e = rw (header, e)
+
+    pub past-14 : paddingBad p ≡ false → layoutFrom 3 ≡ x
+    past-14 e = rw (header, e)
 
 module _ {A : Type 0} (refuse : ℕ → A) (expected : Expected) (t140 red : ℕ) (p : List ℕ) (x : A) where
   -- checks from the n-th on
@@ -22,29 +51,8 @@ module _ {A : Type 0} (refuse : ℕ → A) (expected : Expected) (t140 red : ℕ
   pub gives-3 : typesBad t140 red ≡ true → from 0 ≡ refuse 3
   gives-3 e = rw e
 
-  pub gives-10 : typesBad t140 red ≡ false → length p < shortest → from 0 ≡ refuse 10
-  gives-10 e h = rw (e, lt-ltb (length p) shortest h)
-
-  module _ (types : typesBad t140 red ≡ false) (long : shortest ≤ length p) where
-    pub gives-11 : longest < length p → from 0 ≡ refuse 11
-    gives-11 h = rw (types, le-ltb (length p) shortest long, lt-ltb longest (length p) h)
-
-    module _ (short : length p ≤ longest) where
-      pub gives-12 : (version p ≡ 2 → ⊥) → from 0 ≡ refuse 12
-      gives-12 f = rw (types, le-ltb (length p) shortest long, le-ltb longest (length p) short, ne-eqb (version p) 2 f)
-
-      pub past-12 : version p ≡ 2 → from 0 ≡ from 4
-      past-12 e = rw (types, le-ltb (length p) shortest long, le-ltb longest (length p) short, eq-eqb (version p) 2 e)
-
-  pub gives-13 : ltb (length p) (headerEnd p) ≡ true → from 4 ≡ refuse 13
-  gives-13 e = rw e
-
-  module _ (header : ltb (length p) (headerEnd p) ≡ false) where
-    pub gives-14 : paddingBad p ≡ true → from 4 ≡ refuse 14
-    gives-14 e = rw (header, e)
-
-    pub past-14 : paddingBad p ≡ false → from 4 ≡ from 6
-    past-14 e = rw (header, e)
+  pub past-3 : typesBad t140 red ≡ false → from 0 ≡ layoutFrom refuse p (from 6) 0
+  past-3 e = rw e
 
   pub gives-15 : otherType t140 red p ≡ true → from 6 ≡ refuse 15
   gives-15 e = rw e

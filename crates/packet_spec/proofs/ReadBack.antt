@@ -18,7 +18,7 @@ use Rattle.packet_spec.specs.Reading.{Content, holds, refused, content, 
 use Rattle.packet_spec.specs.Encoding.{markerBit, headerBytes, headBytes, headsBytes, plainBytes, redundantBytes, LengthsFit, Admits}
 use Rattle.base.proofs.Tests.{and-false, or-left, or-right}
 use Rattle.packet_spec.proofs.Heads.{last, one-more}
-use Rattle.packet_spec.proofs.Order.{past-12, past-14, past-16, past-21}
+use Rattle.packet_spec.proofs.Order.{from, past-3, past-12, past-14, past-16, past-21}
 
 -- the headers that blocks are given
 abbrev headsFor : List Block → List Head
@@ -122,8 +122,9 @@ module _ (n : ℕ) (expected : Expected) (t140 red : ℕ) (c : Content) (type : 
   unfolding reading
   passed other =
       let x = blocksRead p (headsOf n t140 p) in
-      past-12 refused expected t140 red p x types (omega arith) short refl
-      ∙ past-14 refused expected t140 red p x (le-ltb (length p) 12 (omega arith)) refl
+      past-3 refused expected t140 red p x types
+      ∙ past-12 refused p (from refused expected t140 red p x 6) (omega arith) short refl
+      ∙ past-14 refused p (from refused expected t140 red p x 6) (le-ltb (length p) 12 (omega arith)) refl
       ∙ past-16 refused expected t140 red p x other source-admitted
       ∙ ap (λ (s : List ℕ). blocksRead p (headsBy n t140 p s)) payload-is
 

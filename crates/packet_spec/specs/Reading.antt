@@ -3,10 +3,10 @@ use Prim.Native.Nat.{ℕ, _-_}
 use mathlib.Core.List.{List, [], _∷_}
 use mathlib.Core.Bool.{Bool, cond, not}
 use lib.Dec.{ltb, eqb}
-use lib.ListN.{length}
+use lib.ListN.{length, take, drop}
 use Rattle.base.specs.Checks.{Check, _gives_, checked}
 use Rattle.packet_spec.specs.Limits.{shortest, longest}
-use Rattle.packet_spec.specs.Header.{version, headerEnd, paddingBad, payloadType, payloadEnd, payload, typesBad, otherType, Expected, otherSource, markerOf, sequenceOf, timestampOf, sourceOf}
+use Rattle.packet_spec.specs.Header.{version, headerEnd, paddingBad, payloadType, payloadEnd, payload, typesBad, otherType, Expected, Any, otherSource, markerOf, sequenceOf, timestampOf, sourceOf}
 use Rattle.packet_spec.specs.Redundancy.{Head, Heads, heads, bad, headers, total, Block, olderOf, primaryOf, blocksOf, joined, areText}
 
 pub record Content : Type 0 where
@@ -35,6 +35,10 @@ headerChecks expected t140 red p =
     ∷ otherType t140 red p gives 15
     ∷ otherSource expected p gives 16
     ∷ []
+
+-- 10 to 14, which look at the packet alone: where header, payload and padding lie
+abbrev pub layoutChecks : List ℕ → List Check
+layoutChecks p = take 5 (drop 1 (headerChecks Any 0 0 p))
 
 -- type T140: one primary block and no header; type RED: headers, with 17, 18 and 19 among them
 abbrev pub headsBy : ℕ → ℕ → List ℕ → List ℕ → Heads

@@ -1,9 +1,12 @@
-use mathlib.Core.Path.{_∙_, sym}
+use mathlib.Core.Path.{_≡_, _∙_, sym}
+use mathlib.Core.Bool.{false}
 use borrow.Author.Needs.{needs}
 use denote.Ref.{now}
+use Rattle.packet_spec.specs.Header.{typesBad}
 use Rattle.packet.specs.Places.{sourceOf}
 use Rattle.header.specs.Seen.{refusedHeader, passedHeader, headerOf}
-use Rattle.packet_spec.proofs.Order.{gives-3, gives-10, gives-11, gives-12, past-12}
+use Rattle.packet_spec.proofs.Order.{from, gives-3, past-3}
+use Rattle.layout.proofs.Told.{refused-told, passed-told, lies-told}
 use Rattle.header.proofs.read.Statement.{statement}
 use Rattle.header.proofs.read.Tie as tie
 
@@ -21,55 +24,49 @@ returns c =
     let x = passedHeader (a .t140) p in
     c .refused .ensures ∙ sym (gives-3 refusedHeader (sourceOf (a .expected)) (a .t140) (a .red) p x (sym (c .before .before .types-bad .ensures) ∙ c .before .if1 .taken))
 
+read-requires : tie.Need-read-requires
+read-requires c κs = search needs
+
+enum-known-outcome : tie.Need-enum-known-outcome
+enum-known-outcome c = search needs
+
 refused-requires-2 : tie.Need-refused-requires-2
 refused-requires-2 c κs = search needs
+
+enum-told : tie.Need-enum-told
+enum-told c = search needs
+
+read-fields-requires : tie.Need-read-fields-requires
+read-fields-requires c κs =
+    let q = c .before .before in
+    lies-told (now (q .before .before .before .before .args .packet)) (q .read .result) (q .read .ensures) (c .enum-told .given .1)
+
+-- past the first check
+types-good : (c : tie.After-read) → typesBad (c .before .before .before .before .args .t140) (c .before .before .before .before .args .red) ≡ false
+types-good c = sym (c .before .before .types-bad .ensures) ∙ c .before .if1 .left
 
 returns-2 : tie.Need-returns-2
 unfolding headerOf
 returns-2 c =
-    let a = c .before .before .before .before .before .args in
+    let q = c .before .before .before .before in
+    let a = q .before .before .before .before .args in
     let p = now (a .packet) in
     let x = passedHeader (a .t140) p in
-    c .refused2 .ensures ∙ sym (gives-10 refusedHeader (sourceOf (a .expected)) (a .t140) (a .red) p x (sym (c .before .before .before .types-bad .ensures) ∙ c .before .before .if1 .left) (c .before .if2 .taken))
-
-refused-requires-3 : tie.Need-refused-requires-3
-refused-requires-3 c κs = search needs
+    let e = sourceOf (a .expected) in
+    let k = c .before .before .outcome .given in
+    c .refused2 .ensures
+    ∙ sym (past-3 refusedHeader e (a .t140) (a .red) p x (types-good q) ∙ refused-told p (q .read .result) (q .read .ensures) refusedHeader (from refusedHeader e (a .t140) (a .red) p x 6) (k .0 .0) (k .1))
 
 returns-3 : tie.Need-returns-3
 unfolding headerOf
 returns-3 c =
-    let a = c .before .before .before .before .before .before .args in
+    let q = c .before .before .before in
+    let a = q .before .before .before .before .args in
     let p = now (a .packet) in
     let x = passedHeader (a .t140) p in
-    c .refused3 .ensures
-    ∙ sym (gives-11 refusedHeader (sourceOf (a .expected)) (a .t140) (a .red) p x (sym (c .before .before .before .before .types-bad .ensures) ∙ c .before .before .before .if1 .left) (c .before .before .if2 .left) (c .before .if3 .taken))
-
-shared-slice-read-if4 : tie.Need-shared-slice-read-if4
-shared-slice-read-if4 c = search needs
-
-refused-requires-4 : tie.Need-refused-requires-4
-refused-requires-4 c κs = search needs
-
-returns-4 : tie.Need-returns-4
-unfolding headerOf
-returns-4 c =
-    let a = c .before .before .before .before .before .before .before .before .args in
-    let p = now (a .packet) in
-    let x = passedHeader (a .t140) p in
-    c .refused4 .ensures
-    ∙ sym (gives-12 refusedHeader (sourceOf (a .expected)) (a .t140) (a .red) p x (sym (c .before .before .before .before .before .before .types-bad .ensures) ∙ c .before .before .before .before .before .if1 .left) (c .before .before .before .before .if2 .left) (c .before .before .before .if3 .left) (c .before .if4 .taken))
-
-read-rest-requires : tie.Need-read-rest-requires
-read-rest-requires c κs = search needs
-
-returns-5 : tie.Need-returns-5
-unfolding headerOf
-returns-5 c =
-    let a = c .before .before .before .before .before .before .before .before .args in
-    let p = now (a .packet) in
-    let x = passedHeader (a .t140) p in
-    c .read-rest .ensures
-    ∙ sym (past-12 refusedHeader (sourceOf (a .expected)) (a .t140) (a .red) p x (sym (c .before .before .before .before .before .before .types-bad .ensures) ∙ c .before .before .before .before .before .if1 .left) (c .before .before .before .before .if2 .left) (c .before .before .before .if3 .left) (c .before .if4 .left))
+    let e = sourceOf (a .expected) in
+    c .read-fields .ensures
+    ∙ sym (past-3 refusedHeader e (a .t140) (a .red) p x (types-good q) ∙ passed-told p (q .read .result) (q .read .ensures) (c .before .enum-told .given .1) refusedHeader (from refusedHeader e (a .t140) (a .red) p x 6))
 
 pub read-spec : {M : Type 1} → statement M
 read-spec =
@@ -78,12 +75,10 @@ read-spec =
     types-bad-requires
     refused-requires
     returns
+    read-requires
+    enum-known-outcome
     refused-requires-2
+    enum-told
+    read-fields-requires
     returns-2
-    refused-requires-3
-    returns-3
-    shared-slice-read-if4
-    refused-requires-4
-    returns-4
-    read-rest-requires
-    returns-5)
+    returns-3)

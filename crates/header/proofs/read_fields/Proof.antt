@@ -43,18 +43,36 @@ shared-slice-read-kind c = search needs
 shared-slice-read-marker : tie.Need-shared-slice-read-marker
 shared-slice-read-marker c = search needs
 
-u16-at-requires : tie.Need-u16-at-requires
-u16-at-requires c κs = search needs
+shared-slice-read-be16 : tie.Need-shared-slice-read-be16
+shared-slice-read-be16 c = search needs
 
-u32-at-requires : tie.Need-u32-at-requires
-u32-at-requires c κs = search needs
+shared-slice-read-be16-2 : tie.Need-shared-slice-read-be16-2
+shared-slice-read-be16-2 c = search needs
 
-u32-at-requires-2 : tie.Need-u32-at-requires-2
-u32-at-requires-2 c κs = search needs
+be16-requires : tie.Need-be16-requires
+be16-requires c κs = search needs
+
+shared-slice-read-be32 : tie.Need-shared-slice-read-be32
+shared-slice-read-be32 c = search needs
+
+shared-slice-read-be32-2 : tie.Need-shared-slice-read-be32-2
+shared-slice-read-be32-2 c = search needs
+
+shared-slice-read-be32-3 : tie.Need-shared-slice-read-be32-3
+shared-slice-read-be32-3 c = search needs
+
+shared-slice-read-be32-4 : tie.Need-shared-slice-read-be32-4
+shared-slice-read-be32-4 c = search needs
+
+be32-requires : tie.Need-be32-requires
+be32-requires c κs = search needs
+
+source-of-requires : tie.Need-source-of-requires
+source-of-requires c κs = search needs
 
 returns-3 : tie.Need-returns-3
 returns-3 c =
-    let t = c .before .before .before .before .before in
+    let t = c .before .before .before .before .before .before .before .before .before .before .before in
     let b = t .before .before .before .before .before in
     let a = b .args in
     let p = now (a .packet) in
@@ -64,9 +82,9 @@ returns-3 c =
       number = 0;
       plain = eqb (payloadType p) (a .t140);
       marker = markerOf p;
-      sequence = c .before .before .u16-at .ensures i;
-      timestamp = c .before .u32-at .ensures i;
-      source = c .u32-at2 .ensures i;
+      sequence = c .before .before .before .before .before .before .be16 .ensures i;
+      timestamp = c .before .be32 .ensures i;
+      source = c .source-of .ensures i;
       from = b .pre .1 i;
       end = b .pre .2 i;
     })
@@ -84,7 +102,13 @@ read-fields-spec =
     returns-2
     shared-slice-read-kind
     shared-slice-read-marker
-    u16-at-requires
-    u32-at-requires
-    u32-at-requires-2
+    shared-slice-read-be16
+    shared-slice-read-be16-2
+    be16-requires
+    shared-slice-read-be32
+    shared-slice-read-be32-2
+    shared-slice-read-be32-3
+    shared-slice-read-be32-4
+    be32-requires
+    source-of-requires
     returns-3)

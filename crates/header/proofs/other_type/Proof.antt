@@ -1,9 +1,9 @@
 use borrow.Author.Tests.{eq-eqb, ne-eqb}
 use borrow.Author.Needs.{needs}
-use Rattle.header.proofs.places.other_type.Statement.{statement}
-use Rattle.header.proofs.places.other_type.Tie as tie
-use Rattle.header.proofs.places.other_type.Reads as reads
-use Rattle.header.proofs.places.other_type.Lts as lts
+use Rattle.header.proofs.other_type.Statement.{statement}
+use Rattle.header.proofs.other_type.Tie as tie
+use Rattle.header.proofs.other_type.Reads as reads
+use Rattle.header.proofs.other_type.Lts as lts
 
 -- src/header.rt:77:16
 shared-slice-read-kind : tie.Need-shared-slice-read-kind

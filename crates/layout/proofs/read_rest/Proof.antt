@@ -7,13 +7,12 @@ use lib.Dec.{ltb}
 use borrow.Author.Tests.{ltb-false}
 use borrow.Author.Needs.{needs}
 use denote.Ref.{now}
-use Rattle.packet.specs.Places.{sourceOf}
-use Rattle.header.specs.Seen.{refusedHeader, passedHeader}
+use Rattle.layout.specs.Seen.{refusedLayout, passedLayout}
 use Rattle.packet_spec.specs.Header.{headerEnd, paddingBad, payloadEnd}
 use Rattle.packet_spec.proofs.Order.{gives-13, gives-14, past-14}
-use Rattle.header.proofs.Payload.{is-past, is-at}
-use Rattle.header.proofs.read_rest.Statement.{statement}
-use Rattle.header.proofs.read_rest.Tie as tie
+use Rattle.layout.proofs.Payload.{is-past, is-at}
+use Rattle.layout.proofs.read_rest.Statement.{statement}
+use Rattle.layout.proofs.read_rest.Tie as tie
 
 started : (c : tie.After-known-told)
     → (ltb (length (now (c .before .before .before .before .before .args .packet))) (headerEnd (now (c .before .before .before .before .before .args .packet))) ≡ false) × (c .before .from .given .0 .0 ≡ headerEnd (now (c .before .before .before .before .before .args .packet)))
@@ -51,31 +50,24 @@ refused-requires-2 c κs = search needs
 enum-known-end : tie.Need-enum-known-end
 enum-known-end c = search needs
 
-read-fields-requires : tie.Need-read-fields-requires
-read-fields-requires c κs = (search needs, started (c .before .before .before .before) .1, ended c .1)
-
 returns : tie.Need-returns
 returns c =
-    let a = c .before .before .before .before .before .args in
-    let p = now (a .packet) in
-    let x = passedHeader (a .t140) p in
+    let p = now (c .before .before .before .before .before .args .packet) in
     c .refused .ensures
-    ∙ sym (gives-13 refusedHeader (sourceOf (a .expected)) (a .t140) (a .red) p x (is-past (ltb (length p) (headerEnd p)) (headerEnd p) (sym (c .before .before .before .start .ensures) ∙ c .before .enum-told .given .1)))
+    ∙ sym (gives-13 refusedLayout p (passedLayout p) (is-past (ltb (length p) (headerEnd p)) (headerEnd p) (sym (c .before .before .before .start .ensures) ∙ c .before .enum-told .given .1)))
 
 returns-2 : tie.Need-returns-2
 returns-2 c =
-    let a = c .before .before .before .before .before .before .before .before .before .args in
-    let p = now (a .packet) in
-    let x = passedHeader (a .t140) p in
+    let p = now (c .before .before .before .before .before .before .before .before .before .args .packet) in
     c .refused2 .ensures
-    ∙ sym (gives-14 refusedHeader (sourceOf (a .expected)) (a .t140) (a .red) p x (started (c .before .before .before .before) .0) (is-past (paddingBad p) (payloadEnd p) (sym (c .before .before .before .end .ensures) ∙ c .before .enum-told2 .given .1)))
+    ∙ sym (gives-14 refusedLayout p (passedLayout p) (started (c .before .before .before .before) .0) (is-past (paddingBad p) (payloadEnd p) (sym (c .before .before .before .end .ensures) ∙ c .before .enum-told2 .given .1)))
 
 returns-3 : tie.Need-returns-3
 returns-3 c =
-    let a = c .before .before .before .before .before .before .before .before .before .before .args in
-    let p = now (a .packet) in
-    let x = passedHeader (a .t140) p in
-    c .read-fields .ensures ∙ sym (past-14 refusedHeader (sourceOf (a .expected)) (a .t140) (a .red) p x (started (c .before .before .before .before .before) .0) (ended (c .before) .0))
+    let p = now (c .before .before .before .before .before .before .before .before .before .args .packet) in
+    let f = started (c .before .before .before .before) in
+    let e = ended c in
+    (λ i. record { number = 0; from = f .1 i; end = e .1 i }) ∙ sym (past-14 refusedLayout p (passedLayout p) (f .0) (e .0))
 
 pub read-rest-spec : {M : Type 1} → statement M
 read-rest-spec =
@@ -89,7 +81,6 @@ read-rest-spec =
     enum-told-2
     refused-requires-2
     enum-known-end
-    read-fields-requires
     returns
     returns-2
     returns-3)

@@ -4,11 +4,11 @@ use native.Mathlib.Omega.{arith}
 use lib.ListN.{getD, length}
 use borrow.Author.Needs.{needs}
 use denote.Ref.{now}
-use Rattle.header.specs.declared.places.Place.the-variants.{At}
+use Rattle.layout.specs.declared.Place.the-variants.{At}
 use Rattle.packet_spec.specs.Header.{headerEnd}
-use Rattle.header.proofs.Payload.{end-plain, no-payload, count-zero, count-above, count-fits}
-use Rattle.header.proofs.places.end.Statement.{statement}
-use Rattle.header.proofs.places.end.Tie as tie
+use Rattle.layout.proofs.Payload.{end-plain, no-payload, count-zero, count-above, count-fits}
+use Rattle.layout.proofs.end.Statement.{statement}
+use Rattle.layout.proofs.end.Tie as tie
 
 shared-slice-read-b : tie.Need-shared-slice-read-b
 shared-slice-read-b c = search needs

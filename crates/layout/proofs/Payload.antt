@@ -2,16 +2,15 @@
 use Prim.Native.Nat.{ℕ, _+_, _-_, _*_, _≤_, _<_}
 use mathlib.Core.Path.{_≡_, refl, ap, sym}
 use mathlib.Core.List.{List}
-use mathlib.Core.Bool.{Bool, true, false, cond, _||_}
+use mathlib.Core.Bool.{Bool, true, false, cond}
 use native.Mathlib.Omega.{arith}
 use native.Mathlib.Nat.{sub-zero}
-use lib.Dec.{ltb, eqb}
+use lib.Dec.{ltb}
 use lib.ListN.{length, getD}
-use borrow.Author.Tests.{lt-ltb, le-ltb, eq-eqb, ne-eqb, ltb-false}
-use Rattle.header.specs.declared.places.Place.{Place}
-use Rattle.header.specs.declared.places.Place.the-variants.{At, Past}
+use borrow.Author.Tests.{lt-ltb, le-ltb, eq-eqb, ne-eqb}
+use Rattle.layout.specs.declared.Place.{Place}
+use Rattle.layout.specs.declared.Place.the-variants.{At, Past}
 use Rattle.packet_spec.specs.Header.{be16, extensionBit, paddingBit, listEnd, headerEnd, padding, paddingBad, payloadEnd}
-use Rattle.base.proofs.Tests.{or-right}
 
 abbrev pub startPlace : List ℕ → Place
 startPlace p = cond (ltb (length p) (headerEnd p)) Past (At (headerEnd p))
