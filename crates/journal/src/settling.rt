@@ -21,7 +21,7 @@ pub fn break_off(s: Transcript, packet: &mut [u8]) -> Transcript
     requires { ⌜ (ready s ≡ true) × (longestPacket ≤ length (now packet)) ⌝ }
     ensures { λ r. ⌜ (ready r ≡ true) × (standingOf r (now (packet .exit)) ≡ closed (standingOf s (now (packet .entry))) Part.Broken brokenLine) ⌝ }
 {
-    let to = printing::put_broken(packet);
+    let to = closing::put_broken(packet);
     let reader = s.reader;
     let receiver = s.receiver;
     let counts = s.counts;
@@ -47,7 +47,7 @@ fn finish(s: Transcript, packet: &mut [u8]) -> Transcript
     ensures { λ r. ⌜ (ready r ≡ true) × (standingOf r (now (packet .exit)) ≡ closed (standingOf s (now (packet .entry))) Part.Ended (lineOf (s .counts))) ⌝ }
 {
     let counts = s.counts;
-    let to = printing::put_counts(
+    let to = closing::put_counts(
         counts.packets,
         counts.late,
         counts.lost,

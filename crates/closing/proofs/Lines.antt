@@ -1,6 +1,6 @@
 -- The digits of a number, and the line of counts.
 use Prim.Native.Nat.{ℕ, zero, suc, _+_, _-_, _/_, _%_, _^_, _<_, _≤_}
-use mathlib.Core.Path.{_≡_, refl, ap, sym}
+use mathlib.Core.Path.{_≡_, _∙_, refl, ap, sym}
 use mathlib.Core.List.{List, [], _∷_, _++_, append-assoc}
 use mathlib.Core.Bool.{Bool, true, false, cond}
 use native.Mathlib.Omega.{arith}
@@ -76,10 +76,12 @@ twenty k n f h = go (leb k 20) refl
         absurd (never n (10 ^ (k - 1)) h a d)
 
 -- the line of counts, in two halves
+regrouped : (x y z e : List ℕ) → x ++ (y ++ z ++ e) ≡ x ++ y ++ z ++ e
+regrouped x y z e = sym (append-assoc x (y ++ z) e) ∙ ap (λ (l : List ℕ). l ++ e) (sym (append-assoc x y z))
+
 pub line-is : (a b c d : ℕ) → ((10 ∷ 112 ∷ 97 ∷ 99 ∷ 107 ∷ 101 ∷ 116 ∷ 115 ∷ 32 ∷ []) ++ decimal a ++ ((32 ∷ 108 ∷ 97 ∷ 116 ∷ 101 ∷ 32 ∷ []) ++ decimal b))
-    ++ ((32 ∷ 108 ∷ 111 ∷ 115 ∷ 116 ∷ 32 ∷ []) ++ decimal c ++ ((32 ∷ 114 ∷ 101 ∷ 102 ∷ 117 ∷ 115 ∷ 101 ∷ 100 ∷ 32 ∷ []) ++ decimal d))
-    ++ (10 ∷ []) ≡ countsLine a b c d
+    ++ ((32 ∷ 108 ∷ 111 ∷ 115 ∷ 116 ∷ 32 ∷ []) ++ decimal c ++ ((32 ∷ 114 ∷ 101 ∷ 102 ∷ 117 ∷ 115 ∷ 101 ∷ 100 ∷ 32 ∷ []) ++ decimal d) ++ (10 ∷ [])) ≡ countsLine a b c d
 unfolding countsLine
-line-is a b c d = ap (λ (l : List ℕ). l ++ (10 ∷ [])) (sym (append-assoc
-    ((10 ∷ 112 ∷ 97 ∷ 99 ∷ 107 ∷ 101 ∷ 116 ∷ 115 ∷ 32 ∷ []) ++ decimal a ++ ((32 ∷ 108 ∷ 97 ∷ 116 ∷ 101 ∷ 32 ∷ []) ++ decimal b))
-    ((32 ∷ 108 ∷ 111 ∷ 115 ∷ 116 ∷ 32 ∷ []) ++ decimal c) ((32 ∷ 114 ∷ 101 ∷ 102 ∷ 117 ∷ 115 ∷ 101 ∷ 100 ∷ 32 ∷ []) ++ decimal d)))
+line-is a b c d =
+    regrouped ((10 ∷ 112 ∷ 97 ∷ 99 ∷ 107 ∷ 101 ∷ 116 ∷ 115 ∷ 32 ∷ []) ++ decimal a ++ ((32 ∷ 108 ∷ 97 ∷ 116 ∷ 101 ∷ 32 ∷ []) ++ decimal b))
+    ((32 ∷ 108 ∷ 111 ∷ 115 ∷ 116 ∷ 32 ∷ []) ++ decimal c) ((32 ∷ 114 ∷ 101 ∷ 102 ∷ 117 ∷ 115 ∷ 101 ∷ 100 ∷ 32 ∷ []) ++ decimal d) (10 ∷ [])

@@ -2,9 +2,9 @@ use mathlib.Core.List.{_++_}
 use borrow.Author.Needs.{needs}
 use denote.Ref.{now}
 use Rattle.journal_spec.specs.Lines.{decimal}
 use Rattle.printing.proofs.Written.{Put, more, all-put}
-use Rattle.printing.proofs.put_two.Statement.{statement}
-use Rattle.printing.proofs.put_two.Tie as tie
+use Rattle.closing.proofs.put_two.Statement.{statement}
+use Rattle.closing.proofs.put_two.Tie as tie
 
 put-named-requires : tie.Need-put-named-requires
 put-named-requires c κs = search needs

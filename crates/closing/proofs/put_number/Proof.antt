@@ -6,10 +6,10 @@ use borrow.Author.Needs.{needs}
 use denote.Ref.{now}
 use Rattle.journal_spec.specs.Lines.{decimal}
 use Rattle.base.specs.Arrays.{over}
 use Rattle.printing.specs.Fitting.{fitting}
-use Rattle.printing.proofs.Lines.{decimal-is, twenty}
-use Rattle.printing.proofs.put_number.Statement.{statement}
-use Rattle.printing.proofs.put_number.Tie as tie
+use Rattle.closing.proofs.Lines.{decimal-is, twenty}
+use Rattle.closing.proofs.put_number.Statement.{statement}
+use Rattle.closing.proofs.put_number.Tie as tie
 
 decimal-requires : tie.Need-decimal-requires
 decimal-requires c κs = search needs

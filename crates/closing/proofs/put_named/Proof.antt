@@ -1,9 +1,9 @@
 use borrow.Author.Needs.{needs}
 use denote.Ref.{now}
 use Rattle.journal_spec.specs.Lines.{decimal}
 use Rattle.printing.proofs.Written.{Put, more, all-put}
-use Rattle.printing.proofs.put_named.Statement.{statement}
-use Rattle.printing.proofs.put_named.Tie as tie
+use Rattle.closing.proofs.put_named.Statement.{statement}
+use Rattle.closing.proofs.put_named.Tie as tie
 
 put-requires : tie.Need-put-requires
 put-requires c κs = search needs
