@@ -1,11 +1,6 @@
-pub mod Told
-pub mod Unread
-pub mod Settled
-pub mod Owed
-pub mod Cuts
 pub mod Ready
-pub mod Acts
-pub mod Uses
-pub mod Gives
-pub mod Answered
-pub mod Pace
+pub mod ActedUpon
+pub mod TakeLeaves
+pub mod GiveLeaves
+pub mod CodeGives
+pub mod HowFar

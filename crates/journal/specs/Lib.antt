@@ -1,5 +1,2 @@
-pub mod Counts
-pub mod Standing
 pub mod Ready
-pub mod Acting
-pub mod Calls
+pub mod CodeCalls

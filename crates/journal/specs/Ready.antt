@@ -1,21 +1,21 @@
 -- A transcript and the buffer lent with it, as a standing; and what each call answers.
-use Prim.Native.Nat.{ℕ, _-_, _*_}
+use Prim.Native.Nat.{ℕ}
 use mathlib.Core.Path.{_≡_}
 use mathlib.Core.List.{List}
 use mathlib.Core.Bool.{Bool, true, false, _&&_, not}
-use lib.Dec.{leb, eqb}
-use lib.ListN.{length, take, drop}
+use lib.Dec.{leb}
+use lib.ListN.{length}
 use Rattle.base.specs.Arrays.{over}
 use Rattle.receiver.specs.declared.Receiver.{Receiver}
 use Rattle.receiver.specs.View.{receiverOf}
 use Rattle.journal_spec.specs.Contents.{limit, longestPacket}
 use Rattle.parts.specs.Bytes.{going}
-use Rattle.records.specs.Reading.{readingOf, sound}
-use Rattle.records.specs.Reading as Reading
-use Rattle.journal.specs.declared.Counts.{Counts}
+use Rattle.reading.specs.Reading.{readingOf, sound}
+use Rattle.reading.specs.Reading as Reading
+use Rattle.counts.specs.Counts.{noCounts, countsFit}
+use Rattle.due.specs.Due.{lineDue, noneDue, within, textDue}
+use Rattle.standing.specs.Standing.{Standing, takeOf, usedOf, givenOf, giveOf, stopOf}
 use Rattle.journal.specs.declared.Transcript.{Transcript}
-use Rattle.journal.specs.Counts.{noCounts}
-use Rattle.journal.specs.Standing.{Standing, takeOf, usedOf, givenOf, giveOf, stopOf}
 
 -- no receiver is open yet
 abbrev pub noReceiver : Receiver
@@ -23,7 +23,7 @@ noReceiver = record { t140 = 0; red = 0; «has_source» = false; source = 0; exp
 
 -- before the first byte
 abbrev pub first : Transcript
-first = record { reader = Reading.start; receiver = noReceiver; counts = noCounts; left = limit; marks = 0; from = 0; to = 0 }
+first = record { reader = Reading.start; receiver = noReceiver; counts = noCounts; left = limit; due = lineDue 0 }
 
 -- the pieces of a packet and the text due lie in the lent buffer
 abbrev pub standingOf : Transcript → List ℕ → Standing
@@ -32,18 +32,13 @@ standingOf s p = record {
   receiver = receiverOf (s .receiver);
   counts = s .counts;
   left = s .left;
-  marks = s .marks;
-  text = take (s .to - s .from) (drop (s .from) p);
+  marks = s .due .marks;
+  text = textDue (s .due) p;
 }
-
--- no more packets than bytes read, and for each no more blocks lost than a number of 16 bits says
-abbrev pub countsFit : Counts → ℕ → Bool
-countsFit k read = leb (k .packets) read && leb (k .late) read && leb (k .refused) read && leb (k .lost) (65535 * read)
 
 -- a transcript from which calls can go on: such are `first` and, again, those that calls leave
 abbrev pub ready : Transcript → Bool
-ready s =
-    leb (s .from) (s .to) && leb (s .to) longestPacket && leb (s .left) limit && countsFit (s .counts) (limit - s .left) && sound (s .reader)
+ready s = within (s .due) && countsFit (s .counts) (s .left) && sound (s .reader)
 
 -- it is lent a buffer of so many bytes
 abbrev pub readyWith : Transcript → ℕ → Bool
@@ -97,9 +92,6 @@ StopsIf false s p s' p' = Stays s p s' p' 0
 abbrev pub Stopping : Transcript → List ℕ → Transcript → List ℕ → Type 0
 Stopping s p s' p' = StopsIf (readyWith s (length p)) s p s' p'
 
--- what `is_due` and `is_done` answer, of a transcript by itself; `proofs/Ready` shows that its standing says the same
-abbrev pub noneDue : Transcript → Bool
-noneDue s = eqb (s .marks) 0 && leb (s .to) (s .from)
-
+-- what `is_done` answers, of a transcript by itself; `proofs/Ready` shows that its standing says the same
 abbrev pub done : Transcript → Bool
-done s = not (going (s .reader .part)) && noneDue s
+done s = not (going (s .reader .part)) && noneDue (s .due)

@@ -1,33 +1,26 @@
 // A journal's transcript, from pieces of any size into space of any size.
+mod giving;
 mod settling;
 mod state;
 mod taking;
 
 ghost use mathlib.Core.Path.{_≡_};
 ghost use mathlib.Core.Bool.{not};
-ghost use Rattle.journal.specs.Ready.{first, Taking, Giving, Stopping, noneDue, done};
-use marks::LossMark;
+ghost use Rattle.due.specs.Due.{noneDue};
+ghost use Rattle.journal.specs.Ready.{first, Taking, Giving, Stopping, done};
+use counts::Counts;
+use due::Due;
+use reading::Reader;
 use receiver::Receiver;
-use records::Reader;
-
-// Of the packets read: those neither late nor refused, those late, the blocks lost, and those refused.
-pub struct Counts {
-    pub packets: u64,
-    pub late: u64,
-    pub lost: u64,
-    pub refused: u64,
-}
 
 // A transcript under way: the journal's reader, the receiver, the counts, how many bytes of the journal may still be
-// read, and what is due: so many marks, then the lent packet's bytes from `from` up to `to`.
+// read, and what is due.
 pub struct Transcript {
     pub reader: Reader,
     pub receiver: Receiver,
     pub counts: Counts,
     pub left: usize,
-    pub marks: usize,
-    pub from: usize,
-    pub to: usize,
+    pub due: Due,
 }
 
 // How many bytes of the journal were used.
@@ -48,9 +41,7 @@ impl Transcript {
     // The least length of the packet buffer: the longest packet.
     pub const BUFFER: usize = Reader::BUFFER;
     // So many bytes of a journal are read at most.
-    pub const LIMIT: usize = 1099511627776;
-    // A number of 16 bits says how many blocks a packet lost.
-    const MOST_LOST: u64 = 65535;
+    pub const LIMIT: usize = Counts::LIMIT;
 
     pub fn start() -> Transcript
         ensures { λ r. ⌜ r ≡ first ⌝ }
@@ -64,16 +55,9 @@ impl Transcript {
                 source: 0,
                 expected: 0,
             },
-            counts: Counts {
-                packets: 0,
-                late: 0,
-                lost: 0,
-                refused: 0,
-            },
+            counts: Counts::none(),
             left: Transcript::LIMIT,
-            marks: 0,
-            from: 0,
-            to: 0,
+            due: Due::line(0),
         }
     }
 
@@ -82,16 +66,9 @@ impl Transcript {
     pub fn take(self, input: &[u8], packet: &mut [u8]) -> Taken
         ensures { λ r. ⌜ Taking self (now (packet .entry)) (now (input .entry)) (r .transcript) (now (packet .exit)) (r .used) ⌝ }
     {
-        let ready = state::is_ready(self, packet.len());
-        if ready {
-            let hungry = state::is_hungry(self);
-            if hungry {
-                return taking::take(self, input, packet);
-            }
-            return Taken {
-                transcript: self,
-                used: 0,
-            };
+        let hungry = state::is_hungry(self, packet.len());
+        if hungry {
+            return taking::take(self, input, packet);
         }
         Taken {
             transcript: self,
@@ -106,25 +83,7 @@ impl Transcript {
     {
         let ready = state::is_ready(self, packet.len());
         if ready {
-            let marks = self.marks;
-            let from = self.from;
-            let to = self.to;
-            let reader = self.reader;
-            let receiver = self.receiver;
-            let counts = self.counts;
-            let put = printing::put_due(marks, &packet[from..to], space);
-            return Given {
-                transcript: Transcript {
-                    reader,
-                    receiver,
-                    counts,
-                    left: self.left,
-                    marks: marks - put.marks,
-                    from: from + put.text,
-                    to,
-                },
-                count: LossMark::SIZE * put.marks + put.text,
-            };
+            return giving::give(self, packet, space);
         }
         Given {
             transcript: self,
@@ -136,22 +95,19 @@ impl Transcript {
     pub fn stop(self, packet: &mut [u8]) -> Transcript
         ensures { λ r. ⌜ Stopping self (now (packet .entry)) r (now (packet .exit)) ⌝ }
     {
-        let ready = state::is_ready(self, packet.len());
-        if ready {
-            let hungry = state::is_hungry(self);
-            if hungry {
-                return settling::break_off(self, packet);
-            }
-            return self;
+        let hungry = state::is_hungry(self, packet.len());
+        if hungry {
+            return settling::break_off(self, packet);
         }
         self
     }
 
     // Whether marks or text are due.
     pub fn is_due(self) -> bool
-        ensures { λ r. ⌜ r ≡ not (noneDue self) ⌝ }
+        ensures { λ r. ⌜ r ≡ not (noneDue (self .due)) ⌝ }
     {
-        let nothing = state::is_nothing_due(self);
+        let due = self.due;
+        let nothing = due.is_none();
         !nothing
     }
 
@@ -164,6 +120,7 @@ impl Transcript {
         if part.is_going() {
             return false;
         }
-        state::is_nothing_due(self)
+        let due = self.due;
+        due.is_none()
     }
 }

@@ -4,33 +4,26 @@ ghost use mathlib.Core.Bool.{true};
 ghost use Prim.Native.Nat.{_≤_};
 ghost use lib.ListN.{length};
 ghost use Rattle.journal_spec.specs.Contents.{longestPacket};
-ghost use Rattle.journal.specs.Standing.{hungry};
+ghost use Rattle.standing.specs.Standing.{hungry};
 ghost use Rattle.journal.specs.Ready.{standingOf, ready, Takes};
 use crate::Taken;
 use crate::Transcript;
 use crate::settling;
+use due::Due;
 
 pub fn take(s: Transcript, input: &[u8], packet: &mut [u8]) -> Taken
     requires { ⌜ (ready s ≡ true) × (longestPacket ≤ length (now packet)) × (hungry (standingOf s (now packet)) ≡ true) ⌝ }
     ensures { λ r. ⌜ Takes s (now (packet .entry)) (now (input .entry)) (r .transcript) (now (packet .exit)) (r .used) ⌝ }
 {
     let reader = s.reader;
-    let receiver = s.receiver;
-    let counts = s.counts;
     let n = numbers::least(input.len(), s.left);
-    let done = reader.read(&input[..n], packet);
-    let next = done.reader;
+    let done = records::read(reader, &input[..n], packet);
     let used = done.used;
-    let left = s.left - used;
-    let read = Transcript {
-        reader: next,
-        receiver,
-        counts,
-        left,
-        marks: 0,
-        from: 0,
-        to: 0,
-    };
+    let next = done.reader;
+    let mut read = s;
+    read.reader = next;
+    read.left = s.left - used;
+    read.due = Due::line(0);
     let transcript = settling::settle(read, packet);
     Taken { transcript, used }
 }

@@ -1,7 +1,6 @@
-pub mod Sound
 pub mod Outcomes
 pub mod Lent
 pub mod Turns
 pub mod Pieces
-pub mod Gathering
 pub mod Runs
+pub mod WholePieces

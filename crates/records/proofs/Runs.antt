@@ -8,14 +8,15 @@ use lib.ListN.{length, take, drop, drop-of-length-le, length-drop}
 use lib.Seq.{drop-drop}
 use Rattle.journal_spec.specs.Contents.{longestPacket}
 use Rattle.base.specs.Arrays.{over}
-use Rattle.records.specs.declared.Reader.{Reader}
+use Rattle.reading.specs.declared.Reader.{Reader}
 use Rattle.parts.specs.Bytes.{Reading, readTo, unread, going}
-use Rattle.records.specs.Reading.{readingOf, sound, ready, ReadAll, Read, broken}
+use Rattle.reading.specs.Reading.{readingOf, broken, sound}
+use Rattle.records.specs.Reading.{ready, ReadAll, Read}
 use Rattle.records.specs.Turns.{Went, Turned, lentAfter}
 use borrow.Author.Tests.{leb-true}
 use lib.Dec.{leb}
 use Rattle.base.proofs.Tests.{and-left, and-right}
-use Rattle.records.proofs.Sound.{fits}
+use Rattle.reading.proofs.Sound.{fits}
 use Rattle.parts.proofs.Zeros.{behind}
 use Rattle.records.proofs.Lent.{lends-all}
 
@@ -36,9 +37,9 @@ unfolding readTo unread
 over-end r s e = (ap (readTo r) e, ap (unread r) e ∙ sym e)
 
 module _ (r₀ : Reader) (p₀ s : List ℕ) (r : Reader) (p : List ℕ) (i : ℕ) (w : Went r₀ p₀ s r p i) where
-  module _ (r' : Reader) (p' : List ℕ) (n : ℕ) (t : Turned r p (take (length s - i) (drop i s)) r' p' n) where
+  module _ (r' : Reader) (p' : List ℕ) (n : ℕ) (t : Went r p (take (length s - i) (drop i s)) r' p' n) where
     next : Went r p (drop i s) r' p' n
-    next = rw (behind i s) at (t .goes)
+    next = rw (behind i s) at t
 
     pub went-on : Went r₀ p₀ s r' p' (i + n)
     went-on = record {
@@ -71,7 +72,7 @@ pub turn-last : (r₀ : Reader) (p₀ s : List ℕ) (r : Reader) (p : List ℕ) 
     → (r' : Reader) (p' : List ℕ) (n : ℕ) → Turned r p (take (length s - i) (drop i s)) r' p' n → longestPacket ≤ length p' → n ≡ 0 → ReadAll r₀ p₀ s r' p' i
 turn-last r₀ p₀ s r p i w r' p' n t big z =
     let e : i + n ≡ i = omega arith in
-    at-stop r₀ p₀ s r' p' i (rw e at (went-on r₀ p₀ s r p i w r' p' n t)) big (t .stops z)
+    at-stop r₀ p₀ s r' p' i (rw e at (went-on r₀ p₀ s r p i w r' p' n (t .goes))) big (t .stops z)
 
 pub ready-is : (r : Reader) (n : ℕ) (b : Bool) → b ≡ ready r n → b ≡ true → (sound r ≡ true) × (longestPacket ≤ n)
 ready-is r n b e h = let w = sym e ∙ h in (and-right (leb longestPacket n) _ w, leb-true longestPacket n (and-left (leb longestPacket n) _ w))
@@ -80,5 +81,5 @@ module _ (r : Reader) (p s : List ℕ) (b : Bool) (e : b ≡ ready r (length p))
   pub read-on : b ≡ true → (r' : Reader) (p' : List ℕ) (used : ℕ) → ReadAll r p s r' p' used → Read r p s r' p' used
   read-on h r' p' used w = rw (sym e ∙ h) w
 
-  pub read-not : b ≡ false → Read r p s (broken r) p 0
-  read-not h = rw (sym e ∙ h) (record { reader = refl; packet = refl; none = refl })
+  pub read-not : b ≡ false → (r' : Reader) → r' ≡ broken r → Read r p s r' p 0
+  read-not h r' re = rw (sym e ∙ h) (record { reader = re; packet = refl; none = refl })

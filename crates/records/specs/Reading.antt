@@ -1,40 +1,14 @@
--- A reader and the buffer lent to it, as a reading; and what a call answers.
+-- What a call of the reader answers.
 use Prim.Native.Nat.{ℕ, _≤_}
 use mathlib.Core.Path.{_≡_}
 use mathlib.Core.List.{List}
-use mathlib.Core.Bool.{Bool, true, false, cond, _&&_}
-use lib.Dec.{ltb, leb, eqb}
-use lib.ListN.{length, take, drop}
+use mathlib.Core.Bool.{Bool, true, false, _&&_}
+use lib.Dec.{leb}
+use lib.ListN.{length, drop}
 use Rattle.journal_spec.specs.Contents.{longestPacket}
-use Rattle.parts.specs.declared.Part.{Part}
-use Rattle.parts.specs.declared.Part.the-variants.{Kind, Packet, Broken}
-use Rattle.parts.specs.Bytes.{Reading, readTo, unread}
-use Rattle.parts.specs.Sound.{soundPart}
-use Rattle.records.specs.declared.Reader.{Reader}
-
--- before the first byte
-abbrev pub start : Reader
-start = record { opened = false; part = Kind; size = 0; at = 0 }
-
--- the lent buffer begins with the pieces' bytes
-abbrev pub readingOf : Reader → List ℕ → Reading
-readingOf r p = record { opened = r .opened; part = r .part; size = r .size; pieces = take (r .at) p }
-
-abbrev pub with : Reader → Part → ℕ → Reader
-with r q at = record { opened = r .opened; part = q; size = r .size; at = at }
-
-abbrev pub broken : Reader → Reader
-broken r = with r Broken (r .at)
-
--- a packet of n bytes begins
-abbrev pub begunBy : Reader → ℕ → Reader
-begunBy r n =
-    cond (ltb longestPacket n) (broken r)
-    (record { opened = r .opened; part = cond (eqb n 0) Packet Kind; size = n; at = 0 })
-
--- a reader from which reading can go on: such are `start` and, again, those that calls leave
-abbrev pub sound : Reader → Bool
-sound r = soundPart (r .part) (r .size) (r .at)
+use Rattle.parts.specs.Bytes.{readTo, unread}
+use Rattle.reading.specs.declared.Reader.{Reader}
+use Rattle.reading.specs.Reading.{readingOf, broken, sound}
 
 -- it is lent a buffer of so many bytes
 abbrev pub ready : Reader → ℕ → Bool

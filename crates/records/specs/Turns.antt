@@ -8,8 +8,8 @@ use Rattle.base.specs.Arrays.{over}
 use Rattle.parts.specs.declared.Part.{Part}
 use Rattle.parts.specs.Bytes.{Reading, readTo, unread, going, pieceEnd}
 use Rattle.parts.specs.Sound.{wholePieces}
-use Rattle.records.specs.declared.Reader.{Reader}
-use Rattle.records.specs.Reading.{readingOf, sound}
+use Rattle.reading.specs.declared.Reader.{Reader}
+use Rattle.reading.specs.Reading.{readingOf, sound}
 
 -- the lent p once s is read as far as reading goes
 abbrev pub lentAfter : Reading → List ℕ → List ℕ → List ℕ
@@ -36,6 +36,11 @@ pub record Gathers (size at : ℕ) (p s : List ℕ) (part' : Part) (at' : ℕ) (
   pub leaves : (o : Bool) → unread (inPacket o size (take at p)) s ≡ unread (inPacket o size (take at' p')) (drop used s)
   pub rest : drop at' p' ≡ drop at' p
   pub none : used ≡ 0 → (at' ≡ at) × (p' ≡ p)
+
+-- the whole pieces at the front of s went behind those gathered so far; where there are none, p stays
+pub record Gathering (r : Reader) (p s : List ℕ) (r' : Reader) (p' : List ℕ) (used : ℕ) : Type 0 where
+  pub goes : Went r p s r' p' used
+  pub none : used ≡ 0 → p' ≡ p
 
 -- one turn: it used some bytes, or reading has stopped
 pub record Turned (r : Reader) (p s : List ℕ) (r' : Reader) (p' : List ℕ) (used : ℕ) : Type 0 where

@@ -2,15 +2,15 @@
 ghost use mathlib.Core.Path.{_≡_};
 ghost use mathlib.Core.Bool.{true};
 ghost use Prim.Native.Nat.{_≤_, _<_, _+_, _-_, _%_};
-ghost use lib.ListN.{length, getD};
+ghost use lib.ListN.{length};
 ghost use Rattle.journal_spec.specs.Records.{pieceLength};
 ghost use Rattle.journal_spec.specs.Contents.{longestPacket};
-ghost use Rattle.parts.specs.Sound.{wholePieces};
-ghost use Rattle.records.specs.Reading.{begunBy, sound, ReadAll};
-ghost use Rattle.records.specs.Turns.{Gathers, Turned};
-use crate::Done;
-use crate::Reader;
+ghost use Rattle.reading.specs.Reading.{sound};
+ghost use Rattle.records.specs.Reading.{ReadAll};
+ghost use Rattle.records.specs.Turns.{Gathering, Turned};
 use parts::Part;
+use reading::Done;
+use reading::Reader;
 
 // Where the pieces of a packet of so many bytes end.
 fn pieces_end(size: usize) -> usize
@@ -20,146 +20,43 @@ fn pieces_end(size: usize) -> usize
     (size + 15) / Part::PIECE * Part::PIECE
 }
 
-// Where the packet is behind whole pieces, how many bytes of them are gathered, and how many of the input were used.
-struct Gathered {
-    part: Part,
-    at: usize,
-    used: usize,
-}
-
-// Whole pieces behind those gathered so far, as many as the packet needs and the input has.
-fn gather(size: usize, at: usize, input: &[u8], packet: &mut [u8]) -> Gathered
-    requires { ⌜ (wholePieces at ≡ true) × (at ≤ longestPacket) × (size ≤ longestPacket) × (longestPacket ≤ length (now packet)) × (at ≤ size) ⌝ }
-    ensures { λ q. ⌜ Gathers size at (now (packet .entry)) (now (input .entry)) (q .part) (q .at) (now (packet .exit)) (q .used) ⌝ }
+// Within a packet: whole pieces behind those gathered so far, as many as the packet needs and the input has.
+fn gather(r: Reader, input: &[u8], packet: &mut [u8]) -> Done
+    requires { ⌜ (sound r ≡ true) × (longestPacket ≤ length (now packet)) × (r .at < r .size → r .part ≡ Part.Kind) ⌝ }
+    ensures { λ q. ⌜ Gathering r (now (packet .entry)) (now (input .entry)) (q .reader) (now (packet .exit)) (q .used) ⌝ }
 {
+    let size = r.size;
+    let at = r.at;
+    if size <= at {
+        return Done { reader: r, used: 0 };
+    }
     let to = pieces_end(size);
     let count = pieces::gather(input, &mut packet[at..to]);
     let more = count * Part::PIECE;
     let end = at + more;
     let part = parts::piece_end(size, &packet[..end]);
-    Gathered {
-        part,
-        at: end,
+    let reader = r.with(part, end);
+    Done {
+        reader,
         used: count + more,
     }
 }
 
-// A packet of n bytes begins.
-fn begun(r: Reader, n: usize) -> Reader
-    ensures { λ q. ⌜ q ≡ begunBy r n ⌝ }
-{
-    if Reader::BUFFER < n {
-        return Reader {
-            opened: r.opened,
-            part: Part::Broken,
-            size: r.size,
-            at: r.at,
-        };
-    }
-    if n == 0 {
-        return Reader {
-            opened: r.opened,
-            part: Part::Packet,
-            size: n,
-            at: 0,
-        };
-    }
-    Reader {
-        opened: r.opened,
-        part: Part::Kind,
-        size: n,
-        at: 0,
-    }
-}
-
-// A kind byte.
-fn kind_byte(r: Reader, input: &[u8], packet: &[u8]) -> Done
-    requires { ⌜ (r .part ≡ Part.Kind) × (sound r ≡ true) × (0 < length (now input)) × (longestPacket ≤ length (now packet)) ⌝ }
-    ensures { λ q. ⌜ Turned r (now (packet .entry)) (now (input .entry)) (q .reader) (now (packet .entry)) (q .used) ⌝ }
-{
-    let next = parts::kind(r.opened, r.at < r.size, input[0]);
-    Done {
-        reader: Reader {
-            opened: r.opened,
-            part: next,
-            size: r.size,
-            at: r.at,
-        },
-        used: 1,
-    }
-}
-
-// Within a packet: whole pieces.
-fn more_pieces(r: Reader, input: &[u8], packet: &mut [u8]) -> Done
-    requires { ⌜ (r .part ≡ Part.Kind) × (sound r ≡ true) × (0 < length (now input)) × (longestPacket ≤ length (now packet)) × (r .at < r .size) ⌝ }
-    ensures { λ q. ⌜ Turned r (now (packet .entry)) (now (input .entry)) (q .reader) (now (packet .exit)) (q .used) ⌝ }
-{
-    let size = r.size;
-    let g = gather(size, r.at, input, packet);
-    if g.used == 0 {
-        return kind_byte(r, input, packet);
-    }
-    let part = g.part;
-    Done {
-        reader: Reader {
-            opened: r.opened,
-            part,
-            size,
-            at: g.at,
-        },
-        used: g.used,
-    }
-}
-
-// A packet begins, with its whole pieces.
-fn begin_packet(r: Reader, input: &[u8], packet: &mut [u8]) -> Done
-    requires { ⌜ (r .part ≡ Part.Kind) × (sound r ≡ true) × (2 < length (now input)) × (longestPacket ≤ length (now packet))
-        × (r .size ≤ r .at) × (r .opened ≡ true) × (getD (now input) 0 0 ≡ 2) ⌝ }
-    ensures { λ q. ⌜ Turned r (now (packet .entry)) (now (input .entry)) (q .reader) (now (packet .exit)) (q .used) ⌝ }
-{
-    let high = numbers::wide(input[1]);
-    let low = numbers::wide(input[2]);
-    let size = high * 256 + low;
-    if Reader::BUFFER < size {
-        return Done {
-            reader: Reader {
-                opened: r.opened,
-                part: Part::Broken,
-                size: r.size,
-                at: r.at,
-            },
-            used: 3,
-        };
-    }
-    let g = gather(size, 0, &input[3..], packet);
-    let part = g.part;
-    Done {
-        reader: Reader {
-            opened: r.opened,
-            part,
-            size,
-            at: g.at,
-        },
-        used: 3 + g.used,
-    }
-}
-
-// At a kind byte.
+// At a kind byte: a packet begins, or goes on, with its whole pieces; else the byte alone.
 fn at_kind(r: Reader, input: &[u8], packet: &mut [u8]) -> Done
     requires { ⌜ (r .part ≡ Part.Kind) × (sound r ≡ true) × (0 < length (now input)) × (longestPacket ≤ length (now packet)) ⌝ }
     ensures { λ q. ⌜ Turned r (now (packet .entry)) (now (input .entry)) (q .reader) (now (packet .exit)) (q .used) ⌝ }
 {
-    if r.at < r.size {
-        return more_pieces(r, input, packet);
+    let head = r.begin(input);
+    let from = head.used;
+    let begun = head.reader;
+    let g = gather(begun, &input[from..], packet);
+    let used = from + g.used;
+    if used == 0 {
+        return r.byte(input[0]);
     }
-    if r.opened {
-        if 2 < input.len() {
-            if input[0] == 2 {
-                return begin_packet(r, input, packet);
-            }
-        }
-    }
-    kind_byte(r, input, packet)
+    let reader = g.reader;
+    Done { reader, used }
 }
 
 // Some bytes of a piece.
@@ -169,58 +66,15 @@ fn piece(r: Reader, n: usize, input: &[u8], packet: &mut [u8]) -> Done
 {
     let m = numbers::least(n, input.len());
     let at = r.at;
-    let size = r.size;
     bytes::copy(&input[..m], &mut packet[at..]);
     let end = at + m;
     if m < n {
-        return Done {
-            reader: Reader {
-                opened: r.opened,
-                part: Part::Piece(n - m),
-                size,
-                at: end,
-            },
-            used: m,
-        };
+        let reader = r.with(Part::Piece(n - m), end);
+        return Done { reader, used: m };
     }
-    let part = parts::piece_end(size, &packet[..end]);
-    Done {
-        reader: Reader {
-            opened: r.opened,
-            part,
-            size,
-            at: end,
-        },
-        used: m,
-    }
-}
-
-// Some bytes of a time.
-fn time(r: Reader, n: usize, input: &[u8], packet: &[u8]) -> Done
-    requires { ⌜ (r .part ≡ Part.Time n) × (sound r ≡ true) × (0 < length (now input)) × (longestPacket ≤ length (now packet)) ⌝ }
-    ensures { λ q. ⌜ Turned r (now (packet .entry)) (now (input .entry)) (q .reader) (now (packet .entry)) (q .used) ⌝ }
-{
-    let m = numbers::least(n, input.len());
-    if m < n {
-        return Done {
-            reader: Reader {
-                opened: r.opened,
-                part: Part::Time(n - m),
-                size: r.size,
-                at: r.at,
-            },
-            used: m,
-        };
-    }
-    Done {
-        reader: Reader {
-            opened: r.opened,
-            part: Part::Kind,
-            size: r.size,
-            at: r.at,
-        },
-        used: m,
-    }
+    let part = parts::piece_end(r.size, &packet[..end]);
+    let reader = r.with(part, end);
+    Done { reader, used: m }
 }
 
 // A record's byte, or what is there of a piece or a time.
@@ -231,54 +85,9 @@ fn turn(r: Reader, input: &[u8], packet: &mut [u8]) -> Done
     let part = r.part;
     match part {
         Part::Piece(n) => piece(r, n, input, packet),
-        Part::Time(n) => time(r, n, input, packet),
+        Part::Time(n) => r.time(n, input.len()),
         Part::Kind => at_kind(r, input, packet),
-        Part::Length => {
-            let v = input[0];
-            Done {
-                reader: Reader {
-                    opened: r.opened,
-                    part: Part::Low(v),
-                    size: r.size,
-                    at: r.at,
-                },
-                used: 1,
-            }
-        }
-        Part::Low(a) => {
-            let high = numbers::wide(a);
-            let low = numbers::wide(input[0]);
-            let next = begun(r, high * 256 + low);
-            Done {
-                reader: next,
-                used: 1,
-            }
-        }
-        Part::Types => {
-            let v = input[0];
-            Done {
-                reader: Reader {
-                    opened: r.opened,
-                    part: Part::Red(v),
-                    size: r.size,
-                    at: r.at,
-                },
-                used: 1,
-            }
-        }
-        Part::Red(a) => {
-            let next = parts::opening(a, input[0]);
-            Done {
-                reader: Reader {
-                    opened: r.opened,
-                    part: next,
-                    size: r.size,
-                    at: r.at,
-                },
-                used: 1,
-            }
-        }
-        _ => Done { reader: r, used: 0 },
+        _ => r.byte(input[0]),
     }
 }
 

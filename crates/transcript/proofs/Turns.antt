@@ -7,7 +7,7 @@ use lib.ListN.{length, take, drop, length-drop}
 use lib.Seq.{length-take-le}
 use Rattle.journal.specs.declared.Transcript.{Transcript}
 use Rattle.journal.specs.Ready.{Taking, Giving}
-use Rattle.journal.proofs.Pace.{amountDue, gave-fits, gave-no-more, gave-less, took-fits}
+use Rattle.journal.proofs.HowFar.{amountDue, gave-fits, gave-no-more, gave-less, took-fits}
 
 -- what is lent from a place on
 abbrev pub from : ℕ → List ℕ → List ℕ

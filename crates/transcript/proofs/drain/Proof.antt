@@ -6,7 +6,7 @@ use lib.Seq.{length-take-le}
 use borrow.Author.Needs.{needs}
 use borrow.Rule.Slice.PartMut.{same-len-mid}
 use denote.Ref.{now}
-use Rattle.journal.proofs.Pace.{gave-left}
+use Rattle.journal.proofs.HowFar.{gave-left}
 use Rattle.transcript.proofs.Turns.{from, toDo, given-fits, turn-less}
 use Rattle.transcript.proofs.drain.Statement.{statement}
 use Rattle.transcript.proofs.drain.Tie as tie

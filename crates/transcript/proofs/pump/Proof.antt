@@ -4,7 +4,7 @@ use native.Mathlib.Omega.{arith}
 use lib.ListN.{length}
 use borrow.Author.Needs.{needs}
 use denote.Ref.{now}
-use Rattle.journal.proofs.Pace.{took-left}
+use Rattle.journal.proofs.HowFar.{took-left}
 use Rattle.transcript.proofs.Turns.{from, taken-fits}
 use Rattle.transcript.proofs.pump.Statement.{statement}
 use Rattle.transcript.proofs.pump.Tie as tie

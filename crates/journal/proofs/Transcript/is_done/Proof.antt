@@ -9,11 +9,11 @@ is-going-requires c κs = search needs
 returns : tie.Need-returns
 returns c = search needs
 
-is-nothing-due-requires : tie.Need-is-nothing-due-requires
-is-nothing-due-requires c κs = search needs
+is-none-requires : tie.Need-is-none-requires
+is-none-requires c κs = search needs
 
 returns-2 : tie.Need-returns-2
-returns-2 c = rw (sym (c .before .before .is-going .ensures) ∙ c .before .if1 .left) (c .is-nothing-due .ensures)
+returns-2 c = rw (sym (c .before .before .before .is-going .ensures) ∙ c .before .before .if1 .left) (c .is-none .ensures)
 
 pub is-done-spec : {M : Type 1} → statement M
-is-done-spec = tie.close (tie.spec is-going-requires returns is-nothing-due-requires returns-2)
+is-done-spec = tie.close (tie.spec is-going-requires returns is-none-requires returns-2)

@@ -4,11 +4,11 @@ use borrow.Author.Needs.{needs}
 use Rattle.journal.proofs.Transcript.is_due.Statement.{statement}
 use Rattle.journal.proofs.Transcript.is_due.Tie as tie
 
-is-nothing-due-requires : tie.Need-is-nothing-due-requires
-is-nothing-due-requires c κs = search needs
+is-none-requires : tie.Need-is-none-requires
+is-none-requires c κs = search needs
 
 returns : tie.Need-returns
-returns c = ap not (c .is-nothing-due .ensures)
+returns c = ap not (c .is-none .ensures)
 
 pub is-due-spec : {M : Type 1} → statement M
-is-due-spec = tie.close (tie.spec is-nothing-due-requires returns)
+is-due-spec = tie.close (tie.spec is-none-requires returns)

@@ -1,7 +1,4 @@
 use Rattle.journal_spec.specs.Contents.{limit}
-use mathlib.Core.Path.{ap}
-use Rattle.records.specs.declared.Reader.{Reader}
-use Rattle.journal.specs.Counts.{noCounts}
 use Rattle.journal.specs.Ready.{noReceiver}
 use borrow.Author.Needs.{needs}
 use Rattle.journal.proofs.Transcript.start.Statement.{statement}
@@ -10,10 +7,15 @@ use Rattle.journal.proofs.Transcript.start.Tie as tie
 fresh-requires : tie.Need-fresh-requires
 fresh-requires c κs = search needs
 
+none-requires : tie.Need-none-requires
+none-requires c κs = search needs
+
+line-requires : tie.Need-line-requires
+line-requires c κs = search needs
+
 returns : tie.Need-returns
 unfolding limit
-returns c =
-    ap (λ (r : Reader). record { reader = r; receiver = noReceiver; counts = noCounts; left = limit; marks = 0; from = 0; to = 0 }) (c .fresh .ensures)
+returns c = λ i. record { reader = c .before .before .fresh .ensures i; receiver = noReceiver; counts = c .before .none .ensures i; left = limit; due = c .line .ensures i }
 
 pub start-spec : {M : Type 1} → statement M
-start-spec = tie.close (tie.spec fresh-requires returns)
+start-spec = tie.close (tie.spec fresh-requires none-requires line-requires returns)

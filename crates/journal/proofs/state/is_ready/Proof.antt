@@ -1,50 +1,44 @@
-use Rattle.journal_spec.specs.Contents.{limit}
-use Rattle.base.proofs.Cases.{cases}
 use mathlib.Core.Path.{_∙_, sym}
-use Rattle.journal.proofs.Ready.{ready-by, unready-by}
+use Rattle.journal.proofs.Ready.{too-short, not-within, not-fit, by-reader}
 use borrow.Author.Needs.{needs}
 use Rattle.journal.proofs.state.is_ready.Statement.{statement}
 use Rattle.journal.proofs.state.is_ready.Tie as tie
 
 returns : tie.Need-returns
-returns c = search cases
+returns c = too-short (c .before .args .s) (c .before .args .space) (c .if1 .taken)
 
-returns-2 : tie.Need-returns-2
-returns-2 c = search cases
+is-within-requires : tie.Need-is-within-requires
+is-within-requires c κs = search needs
 
-returns-3 : tie.Need-returns-3
-returns-3 c = search cases
-
-returns-4 : tie.Need-returns-4
-unfolding limit
-returns-4 c = search cases
-
-counts-fit-requires : tie.Need-counts-fit-requires
-unfolding limit
-counts-fit-requires c κs = search needs
+fit-requires : tie.Need-fit-requires
+fit-requires c κs = search needs
 
 is-sound-requires : tie.Need-is-sound-requires
 is-sound-requires c κs = search needs
 
-returns-5 : tie.Need-returns-5
-unfolding limit
-returns-5 c =
-    ready-by (c .before .before .before .before .before .before .before .before .before .before .before .before .before .args .s) (c .before .before .before .before .before .before .before .before .before .before .before .before .before .args .space) (c .before .before .before .before .before .before .before .before .before .before .before .before .if1 .left) (c .before .before .before .before .before .before .before .before .before .before .if2 .left) (c .before .before .before .before .before .before .before .before .if3 .left) (c .before .before .before .before .before .before .if4 .left) _ (sym (c .before .before .before .counts-fit .ensures) ∙ c .before .before .if5 .taken) (c .is-sound .ensures)
+returns-2 : tie.Need-returns-2
+returns-2 c =
+    let a = c .before .before .before .before .before .before .before .before .before .args in
+    by-reader (a .s) (a .space) (c .before .before .before .before .before .before .before .before .if1 .left) (sym (c .before .before .before .before .before .before .is-within .ensures) ∙ c .before .before .before .before .before .if2 .taken) (sym (c .before .before .before .fit .ensures) ∙ c .before .before .if3 .taken) _ (c .is-sound .ensures)
 
-returns-6 : tie.Need-returns-6
-unfolding limit
-returns-6 c =
-    unready-by (c .before .before .before .before .before .before .before .before .before .before .before .args .s) (c .before .before .before .before .before .before .before .before .before .before .before .args .space) (c .before .before .before .before .before .before .before .before .before .before .if1 .left) (c .before .before .before .before .before .before .before .before .if2 .left) (c .before .before .before .before .before .before .if3 .left) (c .before .before .before .before .if4 .left) (sym (c .before .counts-fit .ensures) ∙ c .if5 .left)
+returns-3 : tie.Need-returns-3
+returns-3 c =
+    let a = c .before .before .before .before .before .before .before .args in
+    not-fit (a .s) (a .space) (c .before .before .before .before .before .before .if1 .left) (sym (c .before .before .before .before .is-within .ensures) ∙ c .before .before .before .if2 .taken) (sym (c .before .fit .ensures) ∙ c .if3 .left)
+
+returns-4 : tie.Need-returns-4
+returns-4 c =
+    let a = c .before .before .before .before .args in
+    not-within (a .s) (a .space) (c .before .before .before .if1 .left) (sym (c .before .is-within .ensures) ∙ c .if2 .left)
 
 pub is-ready-spec : {M : Type 1} → statement M
 is-ready-spec =
     tie.close
     (tie.spec
     returns
+    is-within-requires
+    fit-requires
+    is-sound-requires
     returns-2
     returns-3
-    returns-4
-    counts-fit-requires
-    is-sound-requires
-    returns-5
-    returns-6)
+    returns-4)

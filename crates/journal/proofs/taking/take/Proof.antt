@@ -2,7 +2,7 @@ use mathlib.Core.Path.{sym}
 use native.Mathlib.Omega.{arith}
 use lib.Seq.{length-take-le}
 use denote.Ref.{now}
-use Rattle.journal.proofs.Uses.{used-fits, behind-ready, behind-spare, takes}
+use Rattle.journal.proofs.TakeLeaves.{used-fits, behind-ready, behind-more, takes}
 use borrow.Author.Needs.{needs}
 use Rattle.journal.proofs.taking.take.Statement.{statement}
 use Rattle.journal.proofs.taking.take.Tie as tie
@@ -16,26 +16,26 @@ slice-aggregate-read c = sym (length-take-le _ _ (omega (arith, c .before .least
 read-requires : tie.Need-read-requires
 read-requires c κs = search needs
 
-sub-left : tie.Need-sub-left
-sub-left c =
-    let st = c .before .before .before .before .before .before .before .before .before .before .before .before .before in
+sub-read : tie.Need-sub-read
+sub-read c =
+    let st = c .before .before .before .before .before .before .before .before .before .before .before in
     let a = st .args in
     let l = c .before .before .before .before .before .before .before .least in
     let r = c .before .before .before .before .read in
-    used-fits (a .s) (now (a .packet)) (now (a .input)) (st .pre .0) (st .pre .1) (st .pre .2) (l .result) (l .ensures) (r .result .reader) _ (r .result .used)
-    (r .ensures)
+    used-fits (a .s) (now (a .packet)) (now (a .input)) (st .pre .0) (st .pre .1) (l .result) (l .ensures) (r .result .reader) _ (r .result .used) (r .ensures)
+
+line-requires : tie.Need-line-requires
+line-requires c κs = search needs
 
 settle-requires : tie.Need-settle-requires
 settle-requires c κs =
-    let st = c .before .before .before .before .before .before .before .before .before .before .before .before .before .before in
+    let st = c .before .before .before .before .before .before .before .before .before .before .before .before .before in
     let a = st .args in
-    let l = c .before .before .before .before .before .before .before .before .least in
-    let r = c .before .before .before .before .before .read in (
-      behind-ready (a .s) (now (a .packet)) (now (a .input)) (st .pre .0) (st .pre .1) (st .pre .2) (l .result) (l .ensures) (r .result .reader) _ (r .result .used)
-          (r .ensures),
+    let l = c .before .before .before .before .before .before .before .before .before .least in
+    let r = c .before .before .before .before .before .before .read in (
+      behind-ready (a .s) (now (a .packet)) (now (a .input)) (st .pre .0) (st .pre .1) (l .result) (l .ensures) (r .result .reader) _ (r .result .used) (r .ensures) (st .pre .2) _ (c .before .line .ensures),
       search needs,
-      behind-spare (a .s) (now (a .packet)) (now (a .input)) (st .pre .0) (st .pre .1) (st .pre .2) (l .result) (l .ensures) (r .result .reader) _ (r .result .used)
-          (r .ensures),
+      behind-more (a .s) (now (a .packet)) (now (a .input)) (st .pre .0) (st .pre .1) (l .result) (l .ensures) (r .result .reader) _ (r .result .used) (r .ensures) (st .pre .2) _ (c .before .line .ensures),
     )
 
 same-length : tie.Need-same-length
@@ -43,13 +43,13 @@ same-length c = search needs
 
 returns : tie.Need-returns
 returns c =
-    let st = c .before .before .before .before .before .before .before .before .before .before .before .before .before .before .before .before .before in
+    let st = c .before .before .before .before .before .before .before .before .before .before .before .before .before .before .before .before in
     let a = st .args in
-    let l = c .before .before .before .before .before .before .before .before .before .before .before .least in
-    let r = c .before .before .before .before .before .before .before .before .read in
+    let l = c .before .before .before .before .before .before .before .before .before .before .before .before .least in
+    let r = c .before .before .before .before .before .before .before .before .before .read in
     let t = c .before .before .settle in
-    takes (a .s) (now (a .packet)) (now (a .input)) (st .pre .0) (st .pre .1) (st .pre .2) (l .result) (l .ensures) (r .result .reader) _ (r .result .used)
-    (r .ensures) _ _ (t .ensures .0) (t .ensures .1)
+    takes (a .s) (now (a .packet)) (now (a .input)) (st .pre .0) (st .pre .1) (l .result) (l .ensures) (r .result .reader) _ (r .result .used) (r .ensures) (st .pre .2) _ (c .before .before .before .before .line .ensures) _ _
+    (t .ensures .0) (t .ensures .1)
 
 pub take-spec : {M : Type 1} → statement M
 take-spec =
@@ -58,7 +58,8 @@ take-spec =
     least-requires
     slice-aggregate-read
     read-requires
-    sub-left
+    sub-read
+    line-requires
     settle-requires
     same-length
     returns)

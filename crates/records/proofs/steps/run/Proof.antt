@@ -52,7 +52,7 @@ add-i c =
     let l = c .before .before .before .before .before .before .before .before .loop in
     let t = c .before .before .before .before .turn in
     let w = went-on (a .r) (now (a .packet)) (now (a .input)) (l .now-at) (l .packet) (l .i) (l .inv .0) (t .result .reader)
-    (t .last .1 .1 .0) (t .result .used) (t .ensures) in
+    (t .last .1 .1 .0) (t .result .used) (t .ensures .goes) in
     search needs
 
 loop-less : tie.Need-loop-less Inv-loop μ-loop
@@ -61,7 +61,7 @@ loop-less c =
     let l = c .before .before .before .before .before .before .before .before .loop in
     let t = c .before .before .before .before .turn in
     let w = went-on (a .r) (now (a .packet)) (now (a .input)) (l .now-at) (l .packet) (l .i) (l .inv .0) (t .result .reader)
-    (t .last .1 .1 .0) (t .result .used) (t .ensures) in
+    (t .last .1 .1 .0) (t .result .used) (t .ensures .goes) in
     search needs
 
 loop-again : tie.Need-loop-again Inv-loop μ-loop
@@ -70,7 +70,7 @@ loop-again c =
     let l = c .before .before .before .before .before .before .before .before .loop in
     let t = c .before .before .before .before .turn in (
       went-on (a .r) (now (a .packet)) (now (a .input)) (l .now-at) (l .packet) (l .i) (l .inv .0) (t .result .reader)
-          (t .last .1 .1 .0) (t .result .used) (t .ensures),
+          (t .last .1 .1 .0) (t .result .used) (t .ensures .goes),
       search needs,
       search needs,
     )

@@ -1,0 +1,17 @@
+use mathlib.Core.Path.{refl, ap}
+use Rattle.receiver_spec.specs.Opening.{Opening}
+use borrow.Author.Needs.{needs}
+use Rattle.acting.proofs.open.Statement.{statement}
+use Rattle.acting.proofs.open.Tie as tie
+
+open-requires : tie.Need-open-requires
+open-requires c κs = search needs
+
+line-requires : tie.Need-line-requires
+line-requires c κs = search needs
+
+returns : tie.Need-returns
+returns c = record { receiver = ap (λ (o : Opening). o .receiver) (c .before .before .«open» .ensures); counts = refl; due = c .line .ensures }
+
+pub open-spec : {M : Type 1} → statement M
+open-spec = tie.close (tie.spec open-requires line-requires returns)

@@ -1,0 +1,46 @@
+use mathlib.Core.Path.{_∙_}
+use borrow.Author.Needs.{needs}
+use Rattle.due.proofs.Arising.{forward-due, refused-due, late-due}
+use Rattle.due.proofs.Due.of.Statement.{statement}
+use Rattle.due.proofs.Due.of.Tie as tie
+
+enum-known-answer : tie.Need-enum-known-answer
+enum-known-answer c = search needs
+
+cast-t6 : tie.Need-cast-t6
+cast-t6 c = search needs
+
+enum-told : tie.Need-enum-told
+enum-told c = search needs
+
+line-requires : tie.Need-line-requires
+line-requires c κs = search needs
+
+enum-told-2 : tie.Need-enum-told-2
+enum-told-2 c = search needs
+
+line-requires-2 : tie.Need-line-requires-2
+line-requires-2 c κs = search needs
+
+returns : tie.Need-returns
+returns c = forward-due _ _ _ _ _ _ _ (c .before .answer .given .1)
+
+returns-2 : tie.Need-returns-2
+returns-2 c = c .line .ensures ∙ refused-due _ _ (c .before .enum-told .given .1)
+
+returns-3 : tie.Need-returns-3
+returns-3 c = c .line2 .ensures ∙ late-due _ _ (c .before .enum-told2 .given .1)
+
+pub of-spec : {M : Type 1} → statement M
+of-spec =
+    tie.close
+    (tie.spec
+    enum-known-answer
+    cast-t6
+    enum-told
+    line-requires
+    enum-told-2
+    line-requires-2
+    returns
+    returns-2
+    returns-3)

@@ -1,0 +1,61 @@
+-- A reader behind bytes that belong to no piece.
+use Prim.Native.Nat.{ℕ, _+_, _-_, _*_}
+use mathlib.Core.List.{List}
+use mathlib.Core.Bool.{Bool, true, cond, _&&_, not}
+use lib.Dec.{ltb, eqb}
+use lib.ListN.{length, getD}
+use Rattle.packet_spec.specs.Header.{typesBad}
+use Rattle.journal_spec.specs.Contents.{longestPacket}
+use Rattle.parts.specs.declared.Part.{Part}
+use Rattle.parts.specs.declared.Part.the-variants.{Kind, Types, Red, Length, Low, Piece, Time, Opened, Packet, Ended, Broken}
+use Rattle.parts.specs.Bytes.{kindOf}
+use Rattle.reading.specs.declared.Reader.{Reader}
+use Rattle.reading.specs.Reading.{outside, with, broken}
+
+-- a packet of n bytes begins
+abbrev pub begunBy : Reader → ℕ → Reader
+begunBy r n =
+    cond (ltb longestPacket n) (broken r)
+    (record { opened = r .opened; part = cond (eqb n 0) Packet Kind; size = n; at = 0 })
+
+abbrev pub byteAt : Part → Reader → ℕ → Reader
+byteAt Kind r b = with r (kindOf (r .opened) (ltb (r .at) (r .size)) b) (r .at)
+byteAt Types r b = with r (Red b) (r .at)
+byteAt (Red t140) r b = with r (cond (typesBad t140 b) Broken (Opened t140 b)) (r .at)
+byteAt Length r b = with r (Low b) (r .at)
+byteAt (Low high) r b = begunBy r (high * 256 + b)
+byteAt (Piece n) r b = r
+byteAt (Time n) r b = r
+byteAt (Opened t140 red) r b = r
+byteAt Packet r b = r
+byteAt Ended r b = r
+byteAt Broken r b = r
+
+-- a byte that belongs to no piece and no time
+abbrev pub byteOf : Reader → ℕ → Reader
+byteOf r b = byteAt (r .part) r b
+
+-- m of the n bytes that are to come of a time
+abbrev pub timeOf : Reader → ℕ → ℕ → Reader
+timeOf r n m = with r (cond (ltb m n) (Time (n - m)) Kind) (r .at)
+
+-- behind an open, and outside a packet, s begins one
+abbrev pub begins : Reader → List ℕ → Bool
+begins r s = not (ltb (r .at) (r .size)) && r .opened && ltb 2 (length s) && eqb (getD s 0 0) 2
+
+abbrev pub pastAt : Part → Bool → Reader
+pastAt (Opened t140 red) o = outside true Kind
+pastAt Packet o = outside o Kind
+pastAt Ended o = outside o Ended
+pastAt Broken o = outside o Broken
+pastAt Kind o = outside o Kind
+pastAt Types o = outside o Types
+pastAt (Red t140) o = outside o (Red t140)
+pastAt Length o = outside o Length
+pastAt (Low high) o = outside o (Low high)
+pastAt (Piece n) o = outside o (Piece n)
+pastAt (Time n) o = outside o (Time n)
+
+-- past what reading stopped at
+abbrev pub pastOf : Reader → Reader
+pastOf r = pastAt (r .part) (r .opened)

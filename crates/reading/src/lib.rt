@@ -1,0 +1,178 @@
+// How far a journal is read, and what follows bytes that belong to no piece.
+ghost use mathlib.Core.Path.{_≡_};
+ghost use mathlib.Core.Bool.{cond};
+ghost use Prim.Native.Nat.{_+_, _*_, min};
+ghost use lib.ListN.{getD};
+ghost use Rattle.parts.specs.Bytes.{going};
+ghost use Rattle.reading.specs.Reading.{start, outside, with, sound};
+ghost use Rattle.reading.specs.Bytes.{begunBy, byteOf, timeOf, begins, pastOf};
+use parts::Part;
+
+// The first `at` bytes of the lent buffer are those of the pieces of the packet begun last, of `size` bytes.
+pub struct Reader {
+    pub opened: bool,
+    pub part: Part,
+    pub size: usize,
+    pub at: usize,
+}
+
+// How many bytes of the journal were used.
+pub struct Done {
+    pub reader: Reader,
+    pub used: usize,
+}
+
+impl Reader {
+    // The lent buffer holds the longest packet.
+    pub const BUFFER: usize = Part::LONGEST;
+
+    // No packet is under way.
+    pub fn outside(opened: bool, part: Part) -> Reader
+        ensures { λ r. ⌜ r ≡ outside opened part ⌝ }
+    {
+        Reader {
+            opened,
+            part,
+            size: 0,
+            at: 0,
+        }
+    }
+
+    pub fn fresh() -> Reader
+        ensures { λ r. ⌜ r ≡ start ⌝ }
+    {
+        Reader::outside(false, Part::Kind)
+    }
+
+    // Whether reading can go on from here.
+    pub fn is_sound(self) -> bool
+        ensures { λ r. ⌜ r ≡ sound self ⌝ }
+    {
+        let part = self.part;
+        parts::is_sound(part, self.size, self.at)
+    }
+
+    // The same packet, at another place.
+    pub fn with(self, part: Part, at: usize) -> Reader
+        ensures { λ r. ⌜ r ≡ with self part at ⌝ }
+    {
+        Reader {
+            opened: self.opened,
+            part,
+            size: self.size,
+            at,
+        }
+    }
+
+    // A packet of n bytes begins.
+    fn begun(self, n: usize) -> Reader
+        ensures { λ r. ⌜ r ≡ begunBy self n ⌝ }
+    {
+        if Reader::BUFFER < n {
+            return self.with(Part::Broken, self.at);
+        }
+        if n == 0 {
+            return Reader::outside(self.opened, Part::Packet);
+        }
+        Reader {
+            opened: self.opened,
+            part: Part::Kind,
+            size: n,
+            at: 0,
+        }
+    }
+
+    fn next(self, b: u8) -> Reader
+        ensures { λ r. ⌜ r ≡ byteOf self b ⌝ }
+    {
+        let part = self.part;
+        match part {
+            Part::Kind => {
+                let next = parts::kind(self.opened, self.at < self.size, b);
+                self.with(next, self.at)
+            }
+            Part::Types => self.with(Part::Red(b), self.at),
+            Part::Red(a) => {
+                let next = parts::opening(a, b);
+                self.with(next, self.at)
+            }
+            Part::Length => self.with(Part::Low(b), self.at),
+            Part::Low(a) => {
+                let high = numbers::wide(a);
+                let low = numbers::wide(b);
+                self.begun(high * 256 + low)
+            }
+            _ => self,
+        }
+    }
+
+    // A byte that belongs to no piece and no time; none where reading has stopped.
+    pub fn byte(self, b: u8) -> Done
+        ensures { λ r. ⌜ (r .reader ≡ byteOf self b) × (r .used ≡ cond (going (self .part)) 1 0) ⌝ }
+    {
+        let part = self.part;
+        let next = self.next(b);
+        if part.is_going() {
+            return Done {
+                reader: next,
+                used: 1,
+            };
+        }
+        Done {
+            reader: next,
+            used: 0,
+        }
+    }
+
+    // So many bytes of the n that are to come of a time.
+    pub fn time(self, n: usize, len: usize) -> Done
+        ensures { λ r. ⌜ (r .reader ≡ timeOf self n (min n len)) × (r .used ≡ min n len) ⌝ }
+    {
+        let m = numbers::least(n, len);
+        if m < n {
+            let reader = self.with(Part::Time(n - m), self.at);
+            return Done { reader, used: m };
+        }
+        let reader = self.with(Part::Kind, self.at);
+        Done { reader, used: m }
+    }
+
+    // The three bytes with which a packet begins, where they are there and one can begin.
+    pub fn begin(self, input: &[u8]) -> Done
+        ensures { λ r. ⌜ (r .reader ≡ cond (begins self (now (input .entry))) (begunBy self (getD (now (input .entry)) 1 0 * 256 + getD (now (input .entry)) 2 0)) self)
+            × (r .used ≡ cond (begins self (now (input .entry))) 3 0) ⌝ }
+    {
+        if self.at < self.size {
+            return Done {
+                reader: self,
+                used: 0,
+            };
+        }
+        if self.opened {
+            if 2 < input.len() {
+                if input[0] == 2 {
+                    let high = numbers::wide(input[1]);
+                    let low = numbers::wide(input[2]);
+                    let reader = self.begun(high * 256 + low);
+                    return Done { reader, used: 3 };
+                }
+            }
+        }
+        Done {
+            reader: self,
+            used: 0,
+        }
+    }
+
+    // Past what reading stopped at.
+    pub fn past(self) -> Reader
+        ensures { λ r. ⌜ r ≡ pastOf self ⌝ }
+    {
+        let part = self.part;
+        match part {
+            Part::Opened(_, _) => Reader::outside(true, Part::Kind),
+            Part::Packet => Reader::outside(self.opened, Part::Kind),
+            _ => Reader::outside(self.opened, part),
+        }
+    }
+}
