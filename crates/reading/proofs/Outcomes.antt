@@ -37,17 +37,17 @@ module _ (r : Reader) (n : ℕ) where
 pub by-part : (r : Reader) (b : ℕ) (q : Part) (r' : Reader) → r .part ≡ q → r' ≡ byteAt q r b → r' ≡ byteOf r b
 by-part r b q r' e h = h ∙ ap (λ (x : Part). byteAt x r b) (sym e)
 
-not-other : (n : ℕ) → OneOf (5 ∷ 6 ∷ 7 ∷ 8 ∷ 9 ∷ 10 ∷ []) n → n ≤ 4 → ⊥
+not-other : (n : ℕ) → OneOf (0 ∷ 5 ∷ 6 ∷ 7 ∷ 8 ∷ 9 ∷ 10 ∷ []) n → (0 < n) × (n ≤ 4) → ⊥
 not-other n h k =
-    ⊎-elim (λ e. omega arith) (⊎-elim (λ e. omega arith) (⊎-elim (λ e. omega arith) (⊎-elim (λ e. omega arith) (⊎-elim (λ e. omega arith) (λ e. omega arith))))) h
+    ⊎-elim (λ e. omega arith) (⊎-elim (λ e. omega arith) (⊎-elim (λ e. omega arith) (⊎-elim (λ e. omega arith) (⊎-elim (λ e. omega arith) (⊎-elim (λ e. omega arith) (λ e. omega arith)))))) h
 
 -- the parts on which no such byte falls
-pub other : (q : Part) (r : Reader) (b : ℕ) → OneOf (5 ∷ 6 ∷ 7 ∷ 8 ∷ 9 ∷ 10 ∷ []) (Declared.tagOf the-type q) → r ≡ byteAt q r b
-other Kind r b h = absurd (not-other 0 h (omega arith))
-other Types r b h = absurd (not-other 1 h (omega arith))
-other (Red t140) r b h = absurd (not-other 2 h (omega arith))
-other Length r b h = absurd (not-other 3 h (omega arith))
-other (Low high) r b h = absurd (not-other 4 h (omega arith))
+pub other : (q : Part) (r : Reader) (b : ℕ) → OneOf (0 ∷ 5 ∷ 6 ∷ 7 ∷ 8 ∷ 9 ∷ 10 ∷ []) (Declared.tagOf the-type q) → r ≡ byteAt q r b
+other Kind r b h = refl
+other Types r b h = absurd (not-other 1 h (omega arith, omega arith))
+other (Red t140) r b h = absurd (not-other 2 h (omega arith, omega arith))
+other Length r b h = absurd (not-other 3 h (omega arith, omega arith))
+other (Low high) r b h = absurd (not-other 4 h (omega arith, omega arith))
 other (Piece n) r b h = refl
 other (Time n) r b h = refl
 other (Opened t140 red) r b h = refl

@@ -18,8 +18,12 @@ begunBy r n =
     cond (ltb longestPacket n) (broken r)
     (record { opened = r .opened; part = cond (eqb n 0) Packet Kind; size = n; at = 0 })
 
+-- a kind byte
+abbrev pub kindBy : Reader → ℕ → Reader
+kindBy r b = with r (kindOf (r .opened) (ltb (r .at) (r .size)) b) (r .at)
+
 abbrev pub byteAt : Part → Reader → ℕ → Reader
-byteAt Kind r b = with r (kindOf (r .opened) (ltb (r .at) (r .size)) b) (r .at)
+byteAt Kind r b = r
 byteAt Types r b = with r (Red b) (r .at)
 byteAt (Red t140) r b = with r (cond (typesBad t140 b) Broken (Opened t140 b)) (r .at)
 byteAt Length r b = with r (Low b) (r .at)
@@ -31,7 +35,7 @@ byteAt Packet r b = r
 byteAt Ended r b = r
 byteAt Broken r b = r
 
--- a byte that belongs to no piece and no time
+-- a byte of an open's types or of a packet's length
 abbrev pub byteOf : Reader → ℕ → Reader
 byteOf r b = byteAt (r .part) r b
 

@@ -5,7 +5,7 @@ ghost use Prim.Native.Nat.{_+_, _*_, min};
 ghost use lib.ListN.{getD};
 ghost use Rattle.parts.specs.Bytes.{going};
 ghost use Rattle.reading.specs.Reading.{start, outside, with, sound};
-ghost use Rattle.reading.specs.Bytes.{begunBy, byteOf, timeOf, begins, pastOf};
+ghost use Rattle.reading.specs.Bytes.{begunBy, kindBy, byteOf, timeOf, begins, pastOf};
 use parts::Part;
 
 // The first `at` bytes of the lent buffer are those of the pieces of the packet begun last, of `size` bytes.
@@ -82,15 +82,19 @@ impl Reader {
         }
     }
 
+    // A kind byte.
+    pub fn kind(self, b: u8) -> Reader
+        ensures { λ r. ⌜ r ≡ kindBy self b ⌝ }
+    {
+        let next = parts::kind(self.opened, self.at < self.size, b);
+        self.with(next, self.at)
+    }
+
     fn next(self, b: u8) -> Reader
         ensures { λ r. ⌜ r ≡ byteOf self b ⌝ }
     {
         let part = self.part;
         match part {
-            Part::Kind => {
-                let next = parts::kind(self.opened, self.at < self.size, b);
-                self.with(next, self.at)
-            }
             Part::Types => self.with(Part::Red(b), self.at),
             Part::Red(a) => {
                 let next = parts::opening(a, b);
@@ -106,7 +110,7 @@ impl Reader {
         }
     }
 
-    // A byte that belongs to no piece and no time; none where reading has stopped.
+    // A byte of an open's types or of a packet's length; none where reading has stopped.
     pub fn byte(self, b: u8) -> Done
         ensures { λ r. ⌜ (r .reader ≡ byteOf self b) × (r .used ≡ cond (going (self .part)) 1 0) ⌝ }
     {

@@ -23,7 +23,7 @@ use Rattle.reading.specs.declared.Reader.{Reader}
 use Rattle.journal_spec.specs.Contents.{zeros, longestPacket}
 use Rattle.parts.specs.Bytes.{Reading, going, byteAt, inPiece, at, pieceEnd, kindOf, begun}
 use Rattle.reading.specs.Reading.{readingOf, with, broken, sound}
-use Rattle.reading.specs.Bytes.{begunBy, byteOf, timeOf}
+use Rattle.reading.specs.Bytes.{begunBy, kindBy, byteOf, timeOf}
 use Rattle.reading.specs.Bytes as Readers
 use Rattle.records.specs.Turns.{Went, Turned}
 use Rattle.parts.proofs.Laws.{Moves, stays, first, piece-part, piece-end, time-part, time-end}
@@ -173,9 +173,9 @@ module _ (r : Reader) (p s : List ℕ) (n : ℕ) (q : r .part ≡ Time n) (ok : 
       rw (e, f) (by-test (λ (x : Part). Turned r p s (with r x (r .at)) p m) (ltb m n)
       (λ h. time-on (ltb-true m n h)) (λ h. time-past (ltb-false m n h)))
 
--- parts of a record of which a byte is all
+-- parts at which a byte is one of an open's types or of a length, or reading has stopped
 abbrev pub Single : Part → Type 0
-Single Kind = Unit {0}
+Single Kind = ⊥
 Single Types = Unit {0}
 Single (Red t140) = Unit {0}
 Single Length = Unit {0}
@@ -268,8 +268,11 @@ module _ (r : Reader) (p s : List ℕ) (ok : sound r ≡ true) (some : 0 < lengt
   abbrev v : ℕ
   v = getD s 0 0
 
+  pub turn-kind-byte : r .part ≡ Kind → (r' : Reader) → r' ≡ kindBy r v → Turned r p s r' p 1
+  turn-kind-byte e r' re = rw re (turn-kind e _ refl)
+
   by-part : (q : Part) → r .part ≡ q → Single q → Turned r p s (Readers.byteAt q r v) p (cond (going q) 1 0)
-  by-part Kind e h = turn-kind e _ refl
+  by-part Kind e h = absurd h
   by-part Types e h = turn-types e
   by-part (Red a) e h = turn-red a e _ refl
   by-part Length e h = turn-length e
@@ -290,8 +293,13 @@ not-single n h k =
     ⊎-elim (λ e. omega arith) (⊎-elim (λ e. omega arith) (⊎-elim (λ e. omega arith) (⊎-elim (λ e. omega arith) (⊎-elim (λ e. omega arith) (⊎-elim (λ e. omega arith)
     (⊎-elim (λ e. omega arith) (λ e. omega arith))))))) h
 
+not-kind : (n : ℕ) → OneOf (1 ∷ 2 ∷ 3 ∷ 4 ∷ 7 ∷ 8 ∷ 9 ∷ 10 ∷ []) n → n ≡ 0 → ⊥
+not-kind n h k =
+    ⊎-elim (λ e. omega arith) (⊎-elim (λ e. omega arith) (⊎-elim (λ e. omega arith) (⊎-elim (λ e. omega arith) (⊎-elim (λ e. omega arith) (⊎-elim (λ e. omega arith)
+    (⊎-elim (λ e. omega arith) (λ e. omega arith))))))) h
+
 pub single : (q : Part) → OneOf (1 ∷ 2 ∷ 3 ∷ 4 ∷ 7 ∷ 8 ∷ 9 ∷ 10 ∷ []) (Declared.tagOf the-type q) → Single q
-single Kind h = tt
+single Kind h = absurd (not-kind 0 h refl)
 single Types h = tt
 single (Red t140) h = tt
 single Length h = tt

@@ -53,7 +53,11 @@ fn at_kind(r: Reader, input: &[u8], packet: &mut [u8]) -> Done
     let g = gather(begun, &input[from..], packet);
     let used = from + g.used;
     if used == 0 {
-        return r.byte(input[0]);
+        let next = r.kind(input[0]);
+        return Done {
+            reader: next,
+            used: 1,
+        };
     }
     let reader = g.reader;
     Done { reader, used }

@@ -11,17 +11,8 @@ use Rattle.reading.proofs.Reader.next.Tie as tie
 enum-told : tie.Need-enum-told
 enum-told c = search needs
 
-kind-requires : tie.Need-kind-requires
-kind-requires c κs = search needs
-
 with-requires : tie.Need-with-requires
 with-requires c κs = search needs
-
-enum-told-2 : tie.Need-enum-told-2
-enum-told-2 c = search needs
-
-with-requires-2 : tie.Need-with-requires-2
-with-requires-2 c κs = search needs
 
 enum-known-part : tie.Need-enum-known-part
 enum-known-part c = search needs
@@ -29,14 +20,14 @@ enum-known-part c = search needs
 opening-requires : tie.Need-opening-requires
 opening-requires c κs = search needs
 
+with-requires-2 : tie.Need-with-requires-2
+with-requires-2 c κs = search needs
+
+enum-told-2 : tie.Need-enum-told-2
+enum-told-2 c = search needs
+
 with-requires-3 : tie.Need-with-requires-3
 with-requires-3 c κs = search needs
-
-enum-told-3 : tie.Need-enum-told-3
-enum-told-3 c = search needs
-
-with-requires-4 : tie.Need-with-requires-4
-with-requires-4 c κs = search needs
 
 enum-known-part-2 : tie.Need-enum-known-part-2
 enum-known-part-2 c = search needs
@@ -58,49 +49,41 @@ begun-requires c κs = search needs
 
 returns : tie.Need-returns
 returns c =
-    let a = c .before .before .before .before .before .args in
-    by-part (a .self) (a .b) _ _ (c .before .before .before .enum-told .given .1) (c .with .ensures ∙ ap (λ (x : Part). with (a .self) x (a .self .at)) (c .before .kind .ensures))
+    let a = c .before .before .before .args in
+    by-part (a .self) (a .b) _ _ (c .before .enum-told .given .1) (c .with .ensures)
 
 returns-2 : tie.Need-returns-2
 returns-2 c =
-    let a = c .before .before .before .args in
-    by-part (a .self) (a .b) _ _ (c .before .enum-told2 .given .1) (c .with2 .ensures)
+    let a = c .before .before .before .before .before .args in
+    by-part (a .self) (a .b) _ _ (c .before .before .before .part .given .1) (c .with2 .ensures ∙ ap (λ (x : Part). with (a .self) x (a .self .at)) (c .before .opening .ensures))
 
 returns-3 : tie.Need-returns-3
 returns-3 c =
-    let a = c .before .before .before .before .before .args in
-    by-part (a .self) (a .b) _ _ (c .before .before .before .part .given .1) (c .with3 .ensures ∙ ap (λ (x : Part). with (a .self) x (a .self .at)) (c .before .opening .ensures))
+    let a = c .before .before .before .args in
+    by-part (a .self) (a .b) _ _ (c .before .enum-told2 .given .1) (c .with3 .ensures)
 
 returns-4 : tie.Need-returns-4
 returns-4 c =
-    let a = c .before .before .before .args in
-    by-part (a .self) (a .b) _ _ (c .before .enum-told3 .given .1) (c .with4 .ensures)
-
-returns-5 : tie.Need-returns-5
-returns-5 c =
     let a = c .before .before .before .before .before .before .args in
     let high = c .before .before .before .before .part2 .given .0 .0 in
     by-part (a .self) (a .b) _ _ (c .before .before .before .before .part2 .given .1)
     (c .begun .ensures ∙ ap (λ (x : ℕ). begunBy (a .self) (x * 256 + c .before .wide2 .result)) (c .before .before .wide .ensures .0)
     ∙ ap (λ (x : ℕ). begunBy (a .self) (high * 256 + x)) (c .before .wide2 .ensures .0))
 
-returns-6 : tie.Need-returns-6
-returns-6 c = other (c .before .args .self .part) (c .before .args .self) (c .before .args .b) (c .match .keys6)
+returns-5 : tie.Need-returns-5
+returns-5 c = other (c .before .args .self .part) (c .before .args .self) (c .before .args .b) (c .match .keys5)
 
 pub next-spec : {M : Type 1} → statement M
 next-spec =
     tie.close
     (tie.spec
     enum-told
-    kind-requires
     with-requires
-    enum-told-2
-    with-requires-2
     enum-known-part
     opening-requires
+    with-requires-2
+    enum-told-2
     with-requires-3
-    enum-told-3
-    with-requires-4
     enum-known-part-2
     wide-requires
     wide-requires-2
@@ -111,5 +94,4 @@ next-spec =
     returns-2
     returns-3
     returns-4
-    returns-5
-    returns-6)
+    returns-5)

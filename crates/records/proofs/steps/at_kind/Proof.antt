@@ -1,6 +1,6 @@
 use native.Mathlib.Omega.{arith}
 use denote.Ref.{now}
-use Rattle.records.proofs.Turns.{turn-byte}
+use Rattle.records.proofs.Turns.{turn-kind-byte}
 use Rattle.records.proofs.WholePieces.{went-begin, turn-pieces, turn-still}
 use borrow.Author.Needs.{needs}
 use Rattle.records.proofs.steps.at_kind.Statement.{statement}
@@ -45,11 +45,11 @@ gather-requires c κs =
 add-used : tie.Need-add-used
 add-used c = search needs
 
-shared-slice-read-byte : tie.Need-shared-slice-read-byte
-shared-slice-read-byte c = search needs
+shared-slice-read-kind : tie.Need-shared-slice-read-kind
+shared-slice-read-kind c = search needs
 
-byte-requires : tie.Need-byte-requires
-byte-requires c κs = search needs
+kind-requires : tie.Need-kind-requires
+kind-requires c κs = search needs
 
 same-length : tie.Need-same-length
 same-length c = search needs
@@ -63,7 +63,7 @@ returns c =
     let b = c .before .before .before .before .before .before .before .before .before .before .begin in
     let w = went-begin (a .r) p s (st .pre .0) (st .pre .1) (st .pre .3) (b .result .reader) (b .result .used) (b .ensures .0) (b .ensures .1) in
     let g = c .before .before .before .before .before .before .gather in
-    turn-still (a .r) p s (st .pre .0) (st .pre .1) (st .pre .3) (b .result .reader) (b .result .used) (w .0) (g .result .reader) _ (g .result .used) (g .ensures) (c .before .before .if1 .taken) _ _ (turn-byte (a .r) p s (st .pre .1) (st .pre .2) (st .pre .3) _ (st .pre .0) tt _ _ (c .byte .ensures .0) (c .byte .ensures .1))
+    turn-still (a .r) p s (st .pre .0) (st .pre .1) (st .pre .3) (b .result .reader) (b .result .used) (w .0) (g .result .reader) _ (g .result .used) (g .ensures) (c .before .before .if1 .taken) _ _ (turn-kind-byte (a .r) p s (st .pre .1) (st .pre .2) (st .pre .3) (st .pre .0) _ (c .kind .ensures))
 
 same-length-2 : tie.Need-same-length-2
 same-length-2 c = search needs
@@ -89,8 +89,8 @@ at-kind-spec =
     part-gather-end
     gather-requires
     add-used
-    shared-slice-read-byte
-    byte-requires
+    shared-slice-read-kind
+    kind-requires
     same-length
     returns
     same-length-2
