@@ -3,13 +3,14 @@ use Prim.Native.Nat.{ℕ, _<_, _≤_}
 use mathlib.Core.Path.{_≡_, _∙_, refl, ap, sym, subst}
 use mathlib.Core.List.{List}
 use mathlib.Core.Bool.{Bool, true, false, _&&_, not}
-use borrow.Author.Tests.{leb-true, le-leb, lt-leb}
+use borrow.Author.Tests.{leb-true, le-leb}
 use lib.Dec.{leb}
 use lib.ListN.{length}
 use Rattle.journal_spec.specs.Contents.{limit, longestPacket}
 use Rattle.parts.specs.Bytes.{going}
+use Rattle.reading.specs.Reading as Reading
 use Rattle.reading.specs.Reading.{sound}
-use Rattle.base.proofs.Tests.{both, and-left, and-right}
+use Rattle.base.proofs.Tests.{both, and-left, and-right, and-false}
 use Rattle.counts.specs.Counts.{countsFit}
 use Rattle.counts.proofs.Fits.{none-fit}
 use Rattle.due.specs.Due.{within, noneDue}
@@ -49,17 +50,14 @@ module _ (s : Transcript) where
 
   -- the tests, in their order
   module _ (n : ℕ) where
-    pub too-short : n < longestPacket → false ≡ readyWith s n
-    too-short h = rw (lt-leb longestPacket n h)
+    pub not-within : within (s .due) ≡ false → false ≡ readyWith s n
+    not-within e = sym (and-false (leb longestPacket n)) ∙ sym (λ i. leb longestPacket n && (e i && countsFit (s .counts) (s .left) && sound (s .reader)))
 
-    pub not-within : longestPacket ≤ n → within (s .due) ≡ false → false ≡ readyWith s n
-    not-within h e = sym (λ i. le-leb longestPacket n h i && (e i && countsFit (s .counts) (s .left) && sound (s .reader)))
+    pub not-fit : within (s .due) ≡ true → countsFit (s .counts) (s .left) ≡ false → false ≡ readyWith s n
+    not-fit e f = sym (and-false (leb longestPacket n)) ∙ sym (λ i. leb longestPacket n && (e i && f i && sound (s .reader)))
 
-    pub not-fit : longestPacket ≤ n → within (s .due) ≡ true → countsFit (s .counts) (s .left) ≡ false → false ≡ readyWith s n
-    not-fit h e f = sym (λ i. le-leb longestPacket n h i && (e i && f i && sound (s .reader)))
-
-    pub by-reader : longestPacket ≤ n → within (s .due) ≡ true → countsFit (s .counts) (s .left) ≡ true → (r : Bool) → r ≡ sound (s .reader) → r ≡ readyWith s n
-    by-reader h e f r g = g ∙ sym (λ i. le-leb longestPacket n h i && (e i && f i && sound (s .reader)))
+    pub by-reader : within (s .due) ≡ true → countsFit (s .counts) (s .left) ≡ true → (r : Bool) → r ≡ Reading.ready (s .reader) n → r ≡ readyWith s n
+    by-reader e f r g = g ∙ sym (λ i. leb longestPacket n && (e i && f i && sound (s .reader)))
 
 -- a ready call, lent a buffer that is long enough
 module _ (s : Transcript) (p : List ℕ) (ok : ready s ≡ true) (long : longestPacket ≤ length p) where

@@ -10,15 +10,12 @@ use crate::Transcript;
 pub fn is_ready(s: Transcript, space: usize) -> bool
     ensures { λ r. ⌜ r ≡ readyWith s space ⌝ }
 {
-    if space < Transcript::BUFFER {
-        return false;
-    }
     let due = s.due;
     if due.is_within() {
         let counts = s.counts;
         if counts.fit(s.left) {
             let reader = s.reader;
-            return reader.is_sound();
+            return reader.is_ready(space);
         }
     }
     false

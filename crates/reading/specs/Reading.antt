@@ -1,8 +1,10 @@
 -- A reader and the buffer lent to it, as a reading.
 use Prim.Native.Nat.{ℕ}
 use mathlib.Core.List.{List}
-use mathlib.Core.Bool.{Bool, false}
+use mathlib.Core.Bool.{Bool, false, _&&_}
+use lib.Dec.{leb}
 use lib.ListN.{take}
+use Rattle.journal_spec.specs.Contents.{longestPacket}
 use Rattle.parts.specs.declared.Part.{Part}
 use Rattle.parts.specs.declared.Part.the-variants.{Kind, Broken}
 use Rattle.parts.specs.Bytes.{Reading}
@@ -30,3 +32,7 @@ broken r = with r Broken (r .at)
 -- a reader from which reading can go on: such are `start` and, again, those that calls leave
 abbrev pub sound : Reader → Bool
 sound r = soundPart (r .part) (r .size) (r .at)
+
+-- it is lent a buffer of so many bytes
+abbrev pub ready : Reader → ℕ → Bool
+ready r space = leb longestPacket space && sound r

@@ -4,7 +4,7 @@ ghost use mathlib.Core.Bool.{cond};
 ghost use Prim.Native.Nat.{_+_, _*_, min};
 ghost use lib.ListN.{getD};
 ghost use Rattle.parts.specs.Bytes.{going};
-ghost use Rattle.reading.specs.Reading.{start, outside, with, sound};
+ghost use Rattle.reading.specs.Reading.{start, outside, with, sound, ready};
 ghost use Rattle.reading.specs.Bytes.{begunBy, kindBy, byteOf, timeOf, begins, pastOf};
 use parts::Part;
 
@@ -50,6 +50,16 @@ impl Reader {
     {
         let part = self.part;
         parts::is_sound(part, self.size, self.at)
+    }
+
+    // And the lent buffer has the space.
+    pub fn is_ready(self, space: usize) -> bool
+        ensures { λ r. ⌜ r ≡ ready self space ⌝ }
+    {
+        if space < Reader::BUFFER {
+            return false;
+        }
+        self.is_sound()
     }
 
     // The same packet, at another place.

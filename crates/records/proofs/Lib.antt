@@ -1,4 +1,3 @@
-pub mod Outcomes
 pub mod Lent
 pub mod Turns
 pub mod Pieces

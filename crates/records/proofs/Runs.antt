@@ -10,8 +10,8 @@ use Rattle.journal_spec.specs.Contents.{longestPacket}
 use Rattle.base.specs.Arrays.{over}
 use Rattle.reading.specs.declared.Reader.{Reader}
 use Rattle.parts.specs.Bytes.{Reading, readTo, unread, going}
-use Rattle.reading.specs.Reading.{readingOf, broken, sound}
-use Rattle.records.specs.Reading.{ready, ReadAll, Read}
+use Rattle.reading.specs.Reading.{readingOf, broken, sound, ready}
+use Rattle.records.specs.Reading.{ReadAll, Read}
 use Rattle.records.specs.Turns.{Went, Turned, lentAfter}
 use borrow.Author.Tests.{leb-true}
 use lib.Dec.{leb}

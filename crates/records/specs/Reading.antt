@@ -2,17 +2,11 @@
 use Prim.Native.Nat.{ℕ, _≤_}
 use mathlib.Core.Path.{_≡_}
 use mathlib.Core.List.{List}
-use mathlib.Core.Bool.{Bool, true, false, _&&_}
-use lib.Dec.{leb}
+use mathlib.Core.Bool.{Bool, true, false}
 use lib.ListN.{length, drop}
-use Rattle.journal_spec.specs.Contents.{longestPacket}
 use Rattle.parts.specs.Bytes.{readTo, unread}
 use Rattle.reading.specs.declared.Reader.{Reader}
-use Rattle.reading.specs.Reading.{readingOf, broken, sound}
-
--- it is lent a buffer of so many bytes
-abbrev pub ready : Reader → ℕ → Bool
-ready r space = leb longestPacket space && sound r
+use Rattle.reading.specs.Reading.{readingOf, broken, sound, ready}
 
 -- All of s was given to r with the lent p, and used as far as reading goes: r' and p' hold the reading, so many bytes were used,
 -- and behind the pieces p stays as it was.

@@ -2,26 +2,16 @@
 mod steps;
 
 ghost use mathlib.Core.Path.{_≡_};
-ghost use Rattle.records.specs.Reading.{ready, Read};
+ghost use Rattle.records.specs.Reading.{Read};
 use parts::Part;
 use reading::Done;
 use reading::Reader;
-
-fn is_ready(r: Reader, space: usize) -> bool
-    ensures { λ q. ⌜ q ≡ ready r space ⌝ }
-{
-    if space < Reader::BUFFER {
-        return false;
-    }
-    r.is_sound()
-}
 
 // Reads until an open, a packet, the end or a break, or until the input is used up.
 pub fn read(reader: Reader, input: &[u8], packet: &mut [u8]) -> Done
     ensures { λ q. ⌜ Read reader (now (packet .entry)) (now (input .entry)) (q .reader) (now (packet .exit)) (q .used) ⌝ }
 {
-    let good = is_ready(reader, packet.len());
-    if good {
+    if reader.is_ready(packet.len()) {
         return steps::run(reader, input, packet);
     }
     let broken = reader.with(Part::Broken, reader.at);
