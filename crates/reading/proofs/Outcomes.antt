@@ -1,21 +1,20 @@
 -- Where a reader gets, by the tests that lead there.
-use Prim.Native.Nat.{ℕ, _+_, _-_, _*_, _<_, _≤_}
+use Prim.Native.Nat.{ℕ, _-_, _<_, _≤_}
 use mathlib.Core.Path.{_≡_, _∙_, refl, ap, sym}
-use mathlib.Core.List.{List, [], _∷_}
-use mathlib.Core.Bool.{Bool, true, false, cond}
+use mathlib.Core.List.{[], _∷_}
+use mathlib.Core.Bool.{Bool}
 use mathlib.Core.Logic.{⊎-elim}
 use native.Mathlib.Omega.{arith}
 use types.Run.{OneOf}
 use denote.Enum.Declared as Declared
-use borrow.Author.Tests.{lt-ltb, le-ltb, eq-eqb, ne-eqb}
-use lib.ListN.{length, getD}
+use borrow.Author.Tests.{lt-ltb, le-ltb, ne-eqb}
 use Rattle.journal_spec.specs.Contents.{longestPacket}
 use Rattle.parts.proofs.Part.{the-type}
 use Rattle.parts.specs.declared.Part.{Part}
 use Rattle.parts.specs.declared.Part.the-variants.{Kind, Types, Red, Length, Low, Piece, Time, Opened, Packet, Ended, Broken}
 use Rattle.reading.specs.declared.Reader.{Reader}
 use Rattle.reading.specs.Reading.{outside, with, broken}
-use Rattle.reading.specs.Bytes.{begunBy, byteAt, byteOf, timeOf, begins, pastAt, pastOf}
+use Rattle.reading.specs.Bytes.{begunBy, byteAt, byteOf, timeOf, pastAt, pastOf}
 
 module _ (r : Reader) (n : ℕ) where
   pub too-long : longestPacket < n → broken r ≡ begunBy r n
@@ -75,29 +74,3 @@ stays-there (Opened t140 red) o h = absurd (not-past 7 h (omega arith, omega ari
 stays-there Packet o h = absurd (not-past 8 h (omega arith, omega arith))
 stays-there Ended o h = refl
 stays-there Broken o h = refl
-
--- whether a packet begins
-module _ (r : Reader) (s : List ℕ) where
-  abbrev Begun : Reader → ℕ → Type 0
-  Begun r' used = (r' ≡ cond (begins r s) (begunBy r (getD s 1 0 * 256 + getD s 2 0)) r) × (used ≡ cond (begins r s) 3 0)
-
-  not-begun : begins r s ≡ false → Begun r 0
-  not-begun h = rw h (refl, refl)
-
-  pub not-within : r .at < r .size → Begun r 0
-  not-within h = not-begun (rw (lt-ltb (r .at) (r .size) h))
-
-  module _ (o : r .size ≤ r .at) where
-    pub not-opened : r .opened ≡ false → Begun r 0
-    not-opened h = not-begun (rw (le-ltb (r .at) (r .size) o, h))
-
-    pub not-there : r .opened ≡ true → length s ≤ 2 → Begun r 0
-    not-there e h = not-begun (rw (le-ltb (r .at) (r .size) o, e, le-ltb 2 (length s) h))
-
-    pub not-kind : r .opened ≡ true → 2 < length s → (getD s 0 0 ≡ 2 → ⊥) → Begun r 0
-    not-kind e h k = not-begun (rw (le-ltb (r .at) (r .size) o, e, lt-ltb 2 (length s) h, ne-eqb (getD s 0 0) 2 k))
-
-    pub begun-then : r .opened ≡ true → 2 < length s → getD s 0 0 ≡ 2 → (r' : Reader) (n : ℕ) → n ≡ getD s 1 0 * 256 + getD s 2 0 → r' ≡ begunBy r n → Begun r' 3
-    begun-then e h k r' n ne f =
-        let w : begins r s ≡ true = rw (le-ltb (r .at) (r .size) o, e, lt-ltb 2 (length s) h, eq-eqb (getD s 0 0) 2 k) in
-        rw w (f ∙ ap (begunBy r) ne, refl)

@@ -1,9 +1,7 @@
 -- A reader behind bytes that belong to no piece.
 use Prim.Native.Nat.{ℕ, _+_, _-_, _*_}
-use mathlib.Core.List.{List}
-use mathlib.Core.Bool.{Bool, true, cond, _&&_, not}
+use mathlib.Core.Bool.{Bool, true, cond}
 use lib.Dec.{ltb, eqb}
-use lib.ListN.{length, getD}
 use Rattle.packet_spec.specs.Header.{typesBad}
 use Rattle.journal_spec.specs.Contents.{longestPacket}
 use Rattle.parts.specs.declared.Part.{Part}
@@ -42,10 +40,6 @@ byteOf r b = byteAt (r .part) r b
 -- m of the n bytes that are to come of a time
 abbrev pub timeOf : Reader → ℕ → ℕ → Reader
 timeOf r n m = with r (cond (ltb m n) (Time (n - m)) Kind) (r .at)
-
--- behind an open, and outside a packet, s begins one
-abbrev pub begins : Reader → List ℕ → Bool
-begins r s = not (ltb (r .at) (r .size)) && r .opened && ltb 2 (length s) && eqb (getD s 0 0) 2
 
 abbrev pub pastAt : Part → Bool → Reader
 pastAt (Opened t140 red) o = outside true Kind

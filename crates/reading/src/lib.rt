@@ -1,11 +1,10 @@
 // How far a journal is read, and what follows bytes that belong to no piece.
 ghost use mathlib.Core.Path.{_≡_};
 ghost use mathlib.Core.Bool.{cond};
-ghost use Prim.Native.Nat.{_+_, _*_, min};
-ghost use lib.ListN.{getD};
+ghost use Prim.Native.Nat.{min};
 ghost use Rattle.parts.specs.Bytes.{going};
 ghost use Rattle.reading.specs.Reading.{start, outside, with, sound, ready};
-ghost use Rattle.reading.specs.Bytes.{begunBy, kindBy, byteOf, timeOf, begins, pastOf};
+ghost use Rattle.reading.specs.Bytes.{begunBy, kindBy, byteOf, timeOf, pastOf};
 use parts::Part;
 
 // The first `at` bytes of the lent buffer are those of the pieces of the packet begun last, of `size` bytes.
@@ -149,33 +148,6 @@ impl Reader {
         }
         let reader = self.with(Part::Kind, self.at);
         Done { reader, used: m }
-    }
-
-    // The three bytes with which a packet begins, where they are there and one can begin.
-    pub fn begin(self, input: &[u8]) -> Done
-        ensures { λ r. ⌜ (r .reader ≡ cond (begins self (now (input .entry))) (begunBy self (getD (now (input .entry)) 1 0 * 256 + getD (now (input .entry)) 2 0)) self)
-            × (r .used ≡ cond (begins self (now (input .entry))) 3 0) ⌝ }
-    {
-        if self.at < self.size {
-            return Done {
-                reader: self,
-                used: 0,
-            };
-        }
-        if self.opened {
-            if 2 < input.len() {
-                if input[0] == 2 {
-                    let high = numbers::wide(input[1]);
-                    let low = numbers::wide(input[2]);
-                    let reader = self.begun(high * 256 + low);
-                    return Done { reader, used: 3 };
-                }
-            }
-        }
-        Done {
-            reader: self,
-            used: 0,
-        }
     }
 
     // Past what reading stopped at.

@@ -37,11 +37,6 @@ pub record Gathers (size at : ℕ) (p s : List ℕ) (part' : Part) (at' : ℕ) (
   pub rest : drop at' p' ≡ drop at' p
   pub none : used ≡ 0 → (at' ≡ at) × (p' ≡ p)
 
--- the whole pieces at the front of s went behind those gathered so far; where there are none, p stays
-pub record Gathering (r : Reader) (p s : List ℕ) (r' : Reader) (p' : List ℕ) (used : ℕ) : Type 0 where
-  pub goes : Went r p s r' p' used
-  pub none : used ≡ 0 → p' ≡ p
-
 -- one turn: it used some bytes, or reading has stopped
 pub record Turned (r : Reader) (p s : List ℕ) (r' : Reader) (p' : List ℕ) (used : ℕ) : Type 0 where
   pub goes : Went r p s r' p' used

@@ -2,12 +2,13 @@
 ghost use mathlib.Core.Path.{_≡_};
 ghost use mathlib.Core.Bool.{true};
 ghost use Prim.Native.Nat.{_≤_, _<_, _+_, _-_, _%_};
-ghost use lib.ListN.{length};
+ghost use lib.ListN.{length, getD};
 ghost use Rattle.journal_spec.specs.Records.{pieceLength};
 ghost use Rattle.journal_spec.specs.Contents.{longestPacket};
+ghost use Rattle.parts.specs.Sound.{wholePieces};
 ghost use Rattle.reading.specs.Reading.{sound};
 ghost use Rattle.records.specs.Reading.{ReadAll};
-ghost use Rattle.records.specs.Turns.{Gathering, Turned};
+ghost use Rattle.records.specs.Turns.{Gathers, Turned};
 use parts::Part;
 use reading::Done;
 use reading::Reader;
@@ -20,47 +21,96 @@ fn pieces_end(size: usize) -> usize
     (size + 15) / Part::PIECE * Part::PIECE
 }
 
-// Within a packet: whole pieces behind those gathered so far, as many as the packet needs and the input has.
-fn gather(r: Reader, input: &[u8], packet: &mut [u8]) -> Done
-    requires { ⌜ (sound r ≡ true) × (longestPacket ≤ length (now packet)) × (r .at < r .size → r .part ≡ Part.Kind) ⌝ }
-    ensures { λ q. ⌜ Gathering r (now (packet .entry)) (now (input .entry)) (q .reader) (now (packet .exit)) (q .used) ⌝ }
+// Where the packet is behind whole pieces, how many bytes of them are gathered, and how many of the input were used.
+struct Gathered {
+    part: Part,
+    at: usize,
+    used: usize,
+}
+
+// Whole pieces behind those gathered so far, as many as the packet needs and the input has.
+fn gather(size: usize, at: usize, input: &[u8], packet: &mut [u8]) -> Gathered
+    requires { ⌜ (wholePieces at ≡ true) × (at ≤ longestPacket) × (size ≤ longestPacket) × (longestPacket ≤ length (now packet)) × (at ≤ size) ⌝ }
+    ensures { λ q. ⌜ Gathers size at (now (packet .entry)) (now (input .entry)) (q .part) (q .at) (now (packet .exit)) (q .used) ⌝ }
 {
-    let size = r.size;
-    let at = r.at;
-    if size <= at {
-        return Done { reader: r, used: 0 };
-    }
     let to = pieces_end(size);
     let count = pieces::gather(input, &mut packet[at..to]);
     let more = count * Part::PIECE;
     let end = at + more;
     let part = parts::piece_end(size, &packet[..end]);
-    let reader = r.with(part, end);
-    Done {
-        reader,
+    Gathered {
+        part,
+        at: end,
         used: count + more,
     }
 }
 
-// At a kind byte: a packet begins, or goes on, with its whole pieces; else the byte alone.
+// A kind byte.
+fn kind_byte(r: Reader, input: &[u8], packet: &[u8]) -> Done
+    requires { ⌜ (r .part ≡ Part.Kind) × (sound r ≡ true) × (0 < length (now input)) × (longestPacket ≤ length (now packet)) ⌝ }
+    ensures { λ q. ⌜ Turned r (now (packet .entry)) (now (input .entry)) (q .reader) (now (packet .entry)) (q .used) ⌝ }
+{
+    let reader = r.kind(input[0]);
+    Done { reader, used: 1 }
+}
+
+// Within a packet: whole pieces.
+fn more_pieces(r: Reader, input: &[u8], packet: &mut [u8]) -> Done
+    requires { ⌜ (r .part ≡ Part.Kind) × (sound r ≡ true) × (0 < length (now input)) × (longestPacket ≤ length (now packet)) × (r .at < r .size) ⌝ }
+    ensures { λ q. ⌜ Turned r (now (packet .entry)) (now (input .entry)) (q .reader) (now (packet .exit)) (q .used) ⌝ }
+{
+    let g = gather(r.size, r.at, input, packet);
+    let used = g.used;
+    if used == 0 {
+        return kind_byte(r, input, packet);
+    }
+    let part = g.part;
+    let reader = r.with(part, g.at);
+    Done { reader, used }
+}
+
+// A packet begins, with its whole pieces.
+fn begin_packet(r: Reader, input: &[u8], packet: &mut [u8]) -> Done
+    requires { ⌜ (r .part ≡ Part.Kind) × (sound r ≡ true) × (2 < length (now input)) × (longestPacket ≤ length (now packet))
+        × (r .size ≤ r .at) × (r .opened ≡ true) × (getD (now input) 0 0 ≡ 2) ⌝ }
+    ensures { λ q. ⌜ Turned r (now (packet .entry)) (now (input .entry)) (q .reader) (now (packet .exit)) (q .used) ⌝ }
+{
+    let high = numbers::wide(input[1]);
+    let low = numbers::wide(input[2]);
+    let size = high * 256 + low;
+    if Reader::BUFFER < size {
+        let reader = r.with(Part::Broken, r.at);
+        return Done { reader, used: 3 };
+    }
+    let g = gather(size, 0, &input[3..], packet);
+    let part = g.part;
+    Done {
+        reader: Reader {
+            opened: r.opened,
+            part,
+            size,
+            at: g.at,
+        },
+        used: 3 + g.used,
+    }
+}
+
+// At a kind byte.
 fn at_kind(r: Reader, input: &[u8], packet: &mut [u8]) -> Done
     requires { ⌜ (r .part ≡ Part.Kind) × (sound r ≡ true) × (0 < length (now input)) × (longestPacket ≤ length (now packet)) ⌝ }
     ensures { λ q. ⌜ Turned r (now (packet .entry)) (now (input .entry)) (q .reader) (now (packet .exit)) (q .used) ⌝ }
 {
-    let head = r.begin(input);
-    let from = head.used;
-    let begun = head.reader;
-    let g = gather(begun, &input[from..], packet);
-    let used = from + g.used;
-    if used == 0 {
-        let next = r.kind(input[0]);
-        return Done {
-            reader: next,
-            used: 1,
-        };
+    if r.at < r.size {
+        return more_pieces(r, input, packet);
     }
-    let reader = g.reader;
-    Done { reader, used }
+    if r.opened {
+        if 2 < input.len() {
+            if input[0] == 2 {
+                return begin_packet(r, input, packet);
+            }
+        }
+    }
+    kind_byte(r, input, packet)
 }
 
 // Some bytes of a piece.
