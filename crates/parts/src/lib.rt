@@ -1,7 +1,7 @@
 // Where in a record the reading of a journal is, and what follows a record's bytes.
 ghost use mathlib.Core.Path.{_≡_};
 ghost use mathlib.Core.Bool.{cond, _&&_};
-ghost use Prim.Native.Nat.{_+_};
+ghost use Prim.Native.Nat.{_+_, _*_, _<_};
 ghost use lib.Dec.{leb};
 ghost use Rattle.packet_spec.specs.Header.{typesBad};
 ghost use Rattle.journal_spec.specs.Contents.{zeros};
@@ -72,6 +72,15 @@ pub fn kind(opened: bool, inside: bool, b: u8) -> Part
         return Part::Types;
     }
     Part::Broken
+}
+
+// A packet's length, by its two bytes.
+pub fn length(high: u8, low: u8) -> usize
+    ensures { λ r. ⌜ (r ≡ high * 256 + low) × (r < 65536) ⌝ }
+{
+    let above = numbers::wide(high);
+    let below = numbers::wide(low);
+    above * 256 + below
 }
 
 // Behind an open.

@@ -1,7 +1,7 @@
 // Whole pieces of a packet, gathered in a lent space.
 ghost use mathlib.Core.Path.{_≡_};
-ghost use Prim.Native.Nat.{_≤_, _+_, _/_};
-ghost use lib.ListN.{length, drop};
+ghost use Prim.Native.Nat.{_≤_, _+_, _/_, min};
+ghost use lib.ListN.{length, take, drop};
 ghost use lib.Seq.{paste};
 ghost use Rattle.base.specs.Arrays.{over};
 ghost use Rattle.packet_spec.specs.Redundancy.{joined};
@@ -18,6 +18,17 @@ fn copy_piece(input: &[u8], from: usize, space: &mut [u8], at: usize)
     let mut piece = [0u8; Part::PIECE];
     bytes::copy(&input[from..to], &mut piece);
     bytes::copy(&piece, &mut space[at..]);
+}
+
+// As many of the input's first n bytes as there are and fit. Answers how many.
+pub fn put(n: usize, input: &[u8], space: &mut [u8]) -> usize
+    ensures { λ r. ⌜ r ≡ min (min n (length (now (input .entry)))) (length (now (space .entry))) ⌝ }
+    ensures { λ r. ⌜ now (space .exit) ≡ over (take r (now (input .entry))) (now (space .entry)) ⌝ }
+{
+    let there = numbers::least(n, input.len());
+    let m = numbers::least(there, space.len());
+    bytes::copy(&input[..m], space);
+    m
 }
 
 // The pieces with which the input begins, as many as the space holds, are put one behind the other. Answers how many.

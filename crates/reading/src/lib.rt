@@ -110,11 +110,7 @@ impl Reader {
                 self.with(next, self.at)
             }
             Part::Length => self.with(Part::Low(b), self.at),
-            Part::Low(a) => {
-                let high = numbers::wide(a);
-                let low = numbers::wide(b);
-                self.begun(high * 256 + low)
-            }
+            Part::Low(a) => self.begun(parts::length(a, b)),
             _ => self,
         }
     }

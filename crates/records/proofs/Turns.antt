@@ -10,8 +10,8 @@ use native.Mathlib.Omega.{arith}
 use borrow.Rule.Slice.PartMut.{putMid, midOf}
 use borrow.Author.Tests.{ltb-true, ltb-false, leb-true, lt-ltb, le-leb, eqb-true}
 use lib.Dec.{ltb, leb, eqb}
-use lib.ListN.{length, getD, take, drop}
-use lib.Seq.{length-take-le}
+use lib.ListN.{length, getD, take, drop, length-drop}
+use lib.Seq.{length-take-le, take-all}
 use Rattle.packet_spec.specs.Header.{typesBad}
 use Rattle.base.specs.Arrays.{over}
 use Rattle.base.proofs.Tests.{by-test, both, and-left, and-right}
@@ -78,7 +78,7 @@ pub piece-fits : (r : Reader) (n : ℕ) → r .part ≡ Piece n → sound r ≡ 
 piece-fits r n q ok = whole-is (r .at + n) (and-right (leb 1 n) _ (at-part r ok (Piece n) q)) .0
 
 module _ (r : Reader) (p s : List ℕ) (n m : ℕ) (q : r .part ≡ Piece n) (ok : sound r ≡ true) (some : 0 < length s) (big : longestPacket ≤ length p)
-    (mm : m ≡ min n (length s)) where
+    (mo : m ≡ min (min n (length s)) (length (midOf (r .at) (length p - r .at) p))) where
   way : (leb 1 n && wholePieces (r .at + n)) ≡ true
   way = at-part r ok (Piece n) q
 
@@ -88,11 +88,19 @@ module _ (r : Reader) (p s : List ℕ) (n m : ℕ) (q : r .part ≡ Piece n) (ok
   end-fits : (r .at + n ≤ longestPacket) × ((r .at + n) % 16 ≡ 0)
   end-fits = whole-is (r .at + n) (and-right (leb 1 n) _ way)
 
-  pub piece-room : (r .at + m ≤ length p) × (0 < m) × (m ≤ length s)
-  piece-room = let a = live in let b = end-fits in (omega arith, omega arith, omega arith)
+  mm : m ≡ min n (length s)
+  mm =
+      let b = end-fits in
+      let room : length (midOf (r .at) (length p - r .at) p) ≡ length p - r .at = length-take-le (length p - r .at) (drop (r .at) p) (omega (arith, length-drop (r .at) p)) in
+      omega arith
 
-  module _ (ys p' : List ℕ) (f : ys ≡ take (length (take m s)) (take m s) ++ drop (length (take m s)) (midOf (r .at) (length p - r .at) p))
-      (e : p' ≡ putMid (r .at) (length p - r .at) p ys) where
+  pub piece-room : (r .at + m ≤ length p) × (0 < m) × (m ≤ length s)
+  piece-room = let a = live in let b = end-fits in let c = mm in (omega arith, omega arith, omega arith)
+
+  module _ (ys p' : List ℕ) (fo : ys ≡ over (take m s) (midOf (r .at) (length p - r .at) p)) (e : p' ≡ putMid (r .at) (length p - r .at) p ys) where
+    f : ys ≡ take (length (take m s)) (take m s) ++ drop (length (take m s)) (midOf (r .at) (length p - r .at) p)
+    f = fo ∙ ap (λ (x : List ℕ). x ++ drop (length (take m s)) (midOf (r .at) (length p - r .at) p)) (sym (take-all (length (take m s)) (take m s) (omega arith)))
+
     count : length (take m s) ≡ m
     count = length-take-le m s (piece-room .2)
 
@@ -114,6 +122,7 @@ module _ (r : Reader) (p s : List ℕ) (n m : ℕ) (q : r .part ≡ Piece n) (ok
     pub turn-part : m < n → (r' : Reader) → r' ≡ with r (Piece (n - m)) (r .at + m) → Turned r p s r' p' m
     turn-part h r' re =
         let b = end-fits in
+        let c = mm in
         let w : r .at + m + (n - m) ≡ r .at + n = omega arith in
         rw re (some-used (piece-room .1) (went-put r p s (with r (Piece (n - m)) (r .at + m)) p' m
         (both (le-leb (r .size) longestPacket (small r ok)) (both (le-leb 1 (n - m) (omega arith)) (rw w (whole (r .at + n) (b .0) (b .1)))))
@@ -126,6 +135,7 @@ module _ (r : Reader) (p s : List ℕ) (n m : ℕ) (q : r .part ≡ Piece n) (ok
     pub turn-end : n ≤ m → (d : Part) → d ≡ pieceEnd (r .size) (take (r .at + m) p') → (r' : Reader) → r' ≡ with r d (r .at + m) → Turned r p s r' p' m
     turn-end h d i r' re =
         let b = end-fits in
+        let c = mm in
         let w : m ≡ n = omega arith in
         let x : (r .at + m) % 16 ≡ 0 = ap (λ (k : ℕ). (r .at + k) % 16) w ∙ b .1 in
         rw re (some-used (piece-room .1) (went-put r p s (with r d (r .at + m)) p' m

@@ -75,9 +75,7 @@ fn begin_packet(r: Reader, input: &[u8], packet: &mut [u8]) -> Done
         × (r .size ≤ r .at) × (r .opened ≡ true) × (getD (now input) 0 0 ≡ 2) ⌝ }
     ensures { λ q. ⌜ Turned r (now (packet .entry)) (now (input .entry)) (q .reader) (now (packet .exit)) (q .used) ⌝ }
 {
-    let high = numbers::wide(input[1]);
-    let low = numbers::wide(input[2]);
-    let size = high * 256 + low;
+    let size = parts::length(input[1], input[2]);
     if Reader::BUFFER < size {
         let reader = r.with(Part::Broken, r.at);
         return Done { reader, used: 3 };
@@ -118,9 +116,8 @@ fn piece(r: Reader, n: usize, input: &[u8], packet: &mut [u8]) -> Done
     requires { ⌜ (r .part ≡ Part.Piece n) × (sound r ≡ true) × (0 < length (now input)) × (longestPacket ≤ length (now packet)) × (r .at + n ≤ longestPacket) ⌝ }
     ensures { λ q. ⌜ Turned r (now (packet .entry)) (now (input .entry)) (q .reader) (now (packet .exit)) (q .used) ⌝ }
 {
-    let m = numbers::least(n, input.len());
     let at = r.at;
-    bytes::copy(&input[..m], &mut packet[at..]);
+    let m = pieces::put(n, input, &mut packet[at..]);
     let end = at + m;
     if m < n {
         let reader = r.with(Part::Piece(n - m), end);

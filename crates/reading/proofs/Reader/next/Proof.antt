@@ -1,4 +1,3 @@
-use Prim.Native.Nat.{ℕ, _+_, _*_}
 use mathlib.Core.Path.{_∙_, ap}
 use Rattle.parts.specs.declared.Part.{Part}
 use Rattle.reading.specs.Reading.{with}
@@ -32,17 +31,8 @@ with-requires-3 c κs = search needs
 enum-known-part-2 : tie.Need-enum-known-part-2
 enum-known-part-2 c = search needs
 
-wide-requires : tie.Need-wide-requires
-wide-requires c κs = search needs
-
-wide-requires-2 : tie.Need-wide-requires-2
-wide-requires-2 c κs = search needs
-
-mul-begun : tie.Need-mul-begun
-mul-begun c = search needs
-
-add-begun : tie.Need-add-begun
-add-begun c = search needs
+length-requires : tie.Need-length-requires
+length-requires c κs = search needs
 
 begun-requires : tie.Need-begun-requires
 begun-requires c κs = search needs
@@ -64,11 +54,8 @@ returns-3 c =
 
 returns-4 : tie.Need-returns-4
 returns-4 c =
-    let a = c .before .before .before .before .before .before .args in
-    let high = c .before .before .before .before .part2 .given .0 .0 in
-    by-part (a .self) (a .b) _ _ (c .before .before .before .before .part2 .given .1)
-    (c .begun .ensures ∙ ap (λ (x : ℕ). begunBy (a .self) (x * 256 + c .before .wide2 .result)) (c .before .before .wide .ensures .0)
-    ∙ ap (λ (x : ℕ). begunBy (a .self) (high * 256 + x)) (c .before .wide2 .ensures .0))
+    let a = c .before .before .before .before .before .args in
+    by-part (a .self) (a .b) _ _ (c .before .before .before .part2 .given .1) (c .begun .ensures ∙ ap (begunBy (a .self)) (c .before .length .ensures .0))
 
 returns-5 : tie.Need-returns-5
 returns-5 c = other (c .before .args .self .part) (c .before .args .self) (c .before .args .b) (c .match .keys5)
@@ -85,10 +72,7 @@ next-spec =
     enum-told-2
     with-requires-3
     enum-known-part-2
-    wide-requires
-    wide-requires-2
-    mul-begun
-    add-begun
+    length-requires
     begun-requires
     returns
     returns-2
