@@ -78,9 +78,7 @@ pub fn kind(opened: bool, inside: bool, b: u8) -> Part
 pub fn length(high: u8, low: u8) -> usize
     ensures { λ r. ⌜ (r ≡ high * 256 + low) × (r < 65536) ⌝ }
 {
-    let above = numbers::wide(high);
-    let below = numbers::wide(low);
-    above * 256 + below
+    numbers::be16(high, low) as usize
 }
 
 // Behind an open.
