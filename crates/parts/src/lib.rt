@@ -2,9 +2,9 @@
 ghost use mathlib.Core.Path.{_≡_};
 ghost use mathlib.Core.Bool.{cond, _&&_};
 ghost use Prim.Native.Nat.{_+_, _*_, _<_};
-ghost use lib.Dec.{leb};
+ghost use lib.Dec.{ltb, leb};
 ghost use Rattle.packet_spec.specs.Header.{typesBad};
-ghost use Rattle.journal_spec.specs.Contents.{zeros};
+ghost use Rattle.journal_spec.specs.Contents.{longestPacket, zeros};
 ghost use Rattle.parts.specs.Bytes.{going, kindOf, pieceEnd};
 ghost use Rattle.parts.specs.Sound.{wholePieces, soundPart};
 
@@ -79,6 +79,12 @@ pub fn length(high: u8, low: u8) -> usize
     ensures { λ r. ⌜ (r ≡ high * 256 + low) × (r < 65536) ⌝ }
 {
     numbers::be16(high, low) as usize
+}
+
+pub fn is_too_long(n: usize) -> bool
+    ensures { λ r. ⌜ r ≡ ltb longestPacket n ⌝ }
+{
+    Part::LONGEST < n
 }
 
 // Behind an open.

@@ -2,11 +2,12 @@
 use Prim.Native.Nat.{ℕ, _-_, _<_, _≤_}
 use mathlib.Core.Path.{_≡_, _∙_, refl, ap, sym}
 use mathlib.Core.List.{[], _∷_}
-use mathlib.Core.Bool.{Bool}
+use mathlib.Core.Bool.{Bool, true, false}
 use mathlib.Core.Logic.{⊎-elim}
 use native.Mathlib.Omega.{arith}
 use types.Run.{OneOf}
 use denote.Enum.Declared as Declared
+use lib.Dec.{ltb}
 use borrow.Author.Tests.{lt-ltb, le-ltb, ne-eqb}
 use Rattle.journal_spec.specs.Contents.{longestPacket}
 use Rattle.parts.proofs.Part.{the-type}
@@ -17,14 +18,14 @@ use Rattle.reading.specs.Reading.{outside, with, broken}
 use Rattle.reading.specs.Bytes.{begunBy, byteAt, byteOf, timeOf, pastAt, pastOf}
 
 module _ (r : Reader) (n : ℕ) where
-  pub too-long : longestPacket < n → broken r ≡ begunBy r n
-  too-long h = rw (lt-ltb longestPacket n h)
+  pub too-long : ltb longestPacket n ≡ true → broken r ≡ begunBy r n
+  too-long h = rw h
 
-  pub empty-packet : n ≤ longestPacket → n ≡ 0 → outside (r .opened) Packet ≡ begunBy r n
-  empty-packet h z = rw (le-ltb longestPacket n h, z)
+  pub empty-packet : ltb longestPacket n ≡ false → n ≡ 0 → outside (r .opened) Packet ≡ begunBy r n
+  empty-packet h z = rw z
 
-  pub some-packet : n ≤ longestPacket → (n ≡ 0 → ⊥) → record { opened = r .opened; part = Kind; size = n; at = 0 } ≡ begunBy r n
-  some-packet h z = rw (le-ltb longestPacket n h, ne-eqb n 0 z)
+  pub some-packet : ltb longestPacket n ≡ false → (n ≡ 0 → ⊥) → record { opened = r .opened; part = Kind; size = n; at = 0 } ≡ begunBy r n
+  some-packet h z = rw (h, ne-eqb n 0 z)
 
   pub time-under-way : (m : ℕ) → m < n → with r (Time (n - m)) (r .at) ≡ timeOf r n m
   time-under-way m h = rw (lt-ltb m n h)

@@ -77,7 +77,7 @@ impl Reader {
     fn begun(self, n: usize) -> Reader
         ensures { λ r. ⌜ r ≡ begunBy self n ⌝ }
     {
-        if Reader::BUFFER < n {
+        if parts::is_too_long(n) {
             return self.with(Part::Broken, self.at);
         }
         if n == 0 {

@@ -76,7 +76,7 @@ fn begin_packet(r: Reader, input: &[u8], packet: &mut [u8]) -> Done
     ensures { λ q. ⌜ Turned r (now (packet .entry)) (now (input .entry)) (q .reader) (now (packet .exit)) (q .used) ⌝ }
 {
     let size = parts::length(input[1], input[2]);
-    if Reader::BUFFER < size {
+    if parts::is_too_long(size) {
         let reader = r.with(Part::Broken, r.at);
         return Done { reader, used: 3 };
     }

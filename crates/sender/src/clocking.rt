@@ -70,9 +70,9 @@ pub fn answer(
 pub fn at(sender: Sender, clock: u64) -> Sender
     ensures { λ r. ⌜ r ≡ recordAt sender clock ⌝ }
 {
-    let mut next = sender;
-    next.clock = clock;
-    next
+    let mut quiet = sender;
+    quiet.clock = clock;
+    quiet
 }
 
 // The sender behind the packet that it sends.
