@@ -1,5 +1,6 @@
 -- 01's "Refusal numbers": the number of each refusal.
 use Prim.Native.Nat.{ℕ}
+use mathlib.Core.Bool.{Bool, true, false}
 use Rattle.packet.specs.declared.Refusal.{Refusal}
 use Rattle.packet.specs.declared.Refusal.the-variants.{Level, Buffering, PayloadTypes, WaitingRoom, Clock, Text, NoText, Space, Short, Long, Version, Header, Padding, PayloadType, Source, BlockHeaders, BlockCount, BlockType, BlockLengths, BlockText}
 use Rattle.packet.specs.declared.Outcome.{Outcome}
@@ -31,3 +32,7 @@ number BlockText = 21
 abbrev pub outcomeNumber : Outcome → ℕ
 outcomeNumber Accepted = 0
 outcomeNumber (Refused r) = number r
+
+abbrev pub isRefused : Outcome → Bool
+isRefused Accepted = false
+isRefused (Refused r) = true

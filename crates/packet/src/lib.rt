@@ -3,7 +3,7 @@ ghost use mathlib.Core.Path.{_≡_};
 ghost use lib.ListN.{getD};
 ghost use Rattle.base.specs.Arrays as Arrays;
 ghost use Rattle.packet_spec.specs.Limits.{level};
-ghost use Rattle.packet.specs.Refusal.{number};
+ghost use Rattle.packet.specs.Refusal.{number, isRefused};
 ghost use Rattle.packet.specs.Places.{numbered, refusedAnswer, none, startOf, blockOf};
 
 // The refusals of 01, in the order of its table.
@@ -63,6 +63,17 @@ impl Refusal {
 pub enum Outcome {
     Accepted,
     Refused(Refusal),
+}
+
+impl Outcome {
+    pub fn is_refused(self) -> bool
+        ensures { λ r. ⌜ r ≡ isRefused self ⌝ }
+    {
+        match self {
+            Outcome::Accepted => false,
+            Outcome::Refused(_) => true,
+        }
+    }
 }
 
 // The source that a packet must have.

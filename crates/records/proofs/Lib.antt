@@ -1,5 +1,6 @@
 pub mod Lent
 pub mod Turns
+pub mod SingleBytes
 pub mod Pieces
 pub mod Runs
 pub mod WholePieces

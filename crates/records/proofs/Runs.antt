@@ -10,7 +10,7 @@ use Rattle.journal_spec.specs.Contents.{longestPacket}
 use Rattle.base.specs.Arrays.{over}
 use Rattle.reading.specs.declared.Reader.{Reader}
 use Rattle.parts.specs.Bytes.{Reading, readTo, unread, going}
-use Rattle.reading.specs.Reading.{readingOf, broken, sound, ready}
+use Rattle.reading.specs.Reading.{readingOf, sound, ready}
 use Rattle.records.specs.Reading.{ReadAll, Read}
 use Rattle.records.specs.Turns.{Went, Turned, lentAfter}
 use borrow.Author.Tests.{leb-true}
@@ -81,5 +81,5 @@ module _ (r : Reader) (p s : List ℕ) (b : Bool) (e : b ≡ ready r (length p))
   pub read-on : b ≡ true → (r' : Reader) (p' : List ℕ) (used : ℕ) → ReadAll r p s r' p' used → Read r p s r' p' used
   read-on h r' p' used w = rw (sym e ∙ h) w
 
-  pub read-not : b ≡ false → (r' : Reader) → r' ≡ broken r → Read r p s r' p 0
-  read-not h r' re = rw (sym e ∙ h) (record { reader = re; packet = refl; none = refl })
+  pub read-not : b ≡ false → Read r p s r p 0
+  read-not h = rw (sym e ∙ h) (record { reader = refl; packet = refl; none = refl })

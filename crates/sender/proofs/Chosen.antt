@@ -5,11 +5,12 @@ use mathlib.Core.Bool.{not}
 use lib.Dec.{T as Holds}
 use Rattle.packet.specs.declared.Outcome.{Outcome}
 use Rattle.packet.specs.declared.Outcome.the-variants as Outcome
+use Rattle.packet.specs.Refusal.{isRefused}
 use Rattle.writer.specs.Draft.{isQuiet, isSent}
 use Rattle.sender.specs.declared.Sender.{Sender}
 use Rattle.writer.specs.declared.Answer.{Answer}
 use Rattle.writer.specs.declared.Answer.the-variants.{Refused, Quiet, Sent}
-use Rattle.sender.specs.Offering.{isRefused, recordWith, recordBy}
+use Rattle.sender.specs.Offering.{recordWith, recordBy}
 use Rattle.sender.specs.Clocking.{recordAt, recordAfter, recordBehind}
 
 module _ (s : Sender) (t : ℕ) where

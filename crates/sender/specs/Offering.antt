@@ -2,7 +2,6 @@
 use Prim.Native.Nat.{ℕ}
 use mathlib.Core.Path.{_≡_}
 use mathlib.Core.List.{List}
-use mathlib.Core.Bool.{Bool, true, false}
 use lib.ListN.{length}
 use Rattle.sender.specs.declared.Sender.{Sender}
 use Rattle.packet.specs.declared.Outcome.{Outcome}
@@ -32,8 +31,3 @@ pub record Offers (s : Sender) (texts : List ℕ) (t : ℕ) (x : List ℕ) (r : 
   pub result : record { number = outcomeNumber r; sender = stateOf s' texts' } ≡ offerOf (stateOf s texts) t x
   pub fields : s' ≡ recordBy r s t (length x)
   pub bytes : texts' ≡ textsBy r (s .waiting .room) (s .waiting .len) x texts
-
--- whether an offer is refused
-abbrev pub isRefused : Outcome → Bool
-isRefused Accepted = false
-isRefused (Refused r) = true

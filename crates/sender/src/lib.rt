@@ -66,7 +66,7 @@ impl Sender {
         ensures { λ r. ⌜ Offers (now (self .entry)) (now (texts .entry)) clock (now (text .entry)) r (now (self .exit)) (now (texts .exit)) ⌝ }
     {
         let outcome = offering::offered(*self, clock, text, texts);
-        if offering::is_refused(outcome) {
+        if outcome.is_refused() {
             return outcome;
         }
         *self = offering::with(*self, clock, text);

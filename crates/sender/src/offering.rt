@@ -1,7 +1,7 @@
 // Offering text.
 ghost use mathlib.Core.Path.{_≡_};
 ghost use lib.ListN.{length};
-ghost use Rattle.sender.specs.Offering.{isRefused, recordWith, recordBy, Offers};
+ghost use Rattle.sender.specs.Offering.{recordWith, recordBy, Offers};
 use crate::Sender;
 use packet::Outcome;
 
@@ -12,15 +12,6 @@ pub fn offered(sender: Sender, clock: u64, text: &[u8], texts: &mut [u8; Sender:
     let settings = sender.settings;
     let waiting = sender.waiting;
     offer::judge(settings, sender.clock, waiting, clock, text, texts)
-}
-
-pub fn is_refused(outcome: Outcome) -> bool
-    ensures { λ r. ⌜ r ≡ isRefused outcome ⌝ }
-{
-    match outcome {
-        Outcome::Accepted => false,
-        Outcome::Refused(_) => true,
-    }
 }
 
 // The sender with text behind what waits.

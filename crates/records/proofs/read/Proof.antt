@@ -22,15 +22,11 @@ returns c =
     let t = c .before .before .run in
     read-on (a .reader) (now (a .packet)) (now (a .input)) (y .result) (y .ensures) (c .before .before .before .before .if1 .taken) (t .result .reader) (t .last .1 .1 .0) (t .result .used) (t .ensures)
 
-with-requires : tie.Need-with-requires
-with-requires c κs = search needs
-
 returns-2 : tie.Need-returns-2
 returns-2 c =
-    let a = c .before .before .before .before .before .args in
-    let y = c .before .before .is-ready in
-    read-not (a .reader) (now (a .packet)) (now (a .input)) (y .result) (y .ensures) (c .before .if1 .left) _ (c .with .ensures)
+    let a = c .before .before .before .before .args in
+    let y = c .before .is-ready in
+    read-not (a .reader) (now (a .packet)) (now (a .input)) (y .result) (y .ensures) (c .if1 .left)
 
 pub read-spec : {M : Type 1} → statement M
-read-spec =
-    tie.close (tie.spec is-ready-requires run-requires same-length returns with-requires returns-2)
+read-spec = tie.close (tie.spec is-ready-requires run-requires same-length returns returns-2)

@@ -1,5 +1,5 @@
 use denote.Ref.{now}
-use Rattle.records.proofs.Turns.{turn-kind-byte}
+use Rattle.records.proofs.SingleBytes.{turn-kind-byte}
 use borrow.Author.Needs.{needs}
 use Rattle.records.proofs.steps.kind_byte.Statement.{statement}
 use Rattle.records.proofs.steps.kind_byte.Tie as tie

@@ -1,6 +1,7 @@
 use denote.Ref.{now}
 use mathlib.Core.Path.{_∙_, refl}
-use Rattle.records.proofs.Turns.{piece-fits, turn-time, turn-byte, single}
+use Rattle.records.proofs.Turns.{piece-fits, turn-time}
+use Rattle.records.proofs.SingleBytes.{turn-byte, single}
 use borrow.Author.Needs.{needs}
 use Rattle.records.proofs.steps.turn.Statement.{statement}
 use Rattle.records.proofs.steps.turn.Tie as tie

@@ -46,7 +46,8 @@ use Rattle.packet.proofs.Outcome as O
 use Rattle.packet.proofs.Outcome.Laws as O′
 use Rattle.slots.specs.Slots.{textsSize}
 use Rattle.sender.specs.declared.Sender.{Sender}
-use Rattle.sender.specs.Offering.{isRefused, recordWith, recordBy, Offers}
+use Rattle.packet.specs.Refusal.{isRefused}
+use Rattle.sender.specs.Offering.{recordWith, recordBy, Offers}
 use Rattle.sender.proofs.Chosen.{by-refused, by-accepted}
 use Rattle.sender.proofs.Sender as S
 use Rattle.sender.proofs.Sender.Laws as S′
@@ -54,10 +55,10 @@ use Rattle.sender.proofs.offering.offered as offered
 use Rattle.sender.proofs.offering.offered.Symbol as offered-def
 use Rattle.sender.proofs.offering.offered.Symbol.{name as #sender·offering·offered}
 use Rattle.sender.proofs.offering.offered.Met as offered-thm
-use Rattle.sender.proofs.offering.is_refused as is-refused
-use Rattle.sender.proofs.offering.is_refused.Symbol as is-refused-def
-use Rattle.sender.proofs.offering.is_refused.Symbol.{name as #sender·offering·is-refused}
-use Rattle.sender.proofs.offering.is_refused.Met as is-refused-thm
+use Rattle.packet.proofs.Outcome.is_refused as is-refused
+use Rattle.packet.proofs.Outcome.is_refused.Symbol as is-refused-def
+use Rattle.packet.proofs.Outcome.is_refused.Symbol.{name as #packet·Outcome·is-refused}
+use Rattle.packet.proofs.Outcome.is_refused.Met as is-refused-thm
 use Rattle.sender.proofs.offering.with as with-text
 use Rattle.sender.proofs.offering.with.Symbol as with-def
 use Rattle.sender.proofs.offering.with.Symbol.{name as #sender·offering·with}
@@ -148,7 +149,7 @@ module _ {M : Type 1} (𝓤 : URA M) (H : Heap 𝓤) (A : Atoms 𝓤) (W : Given
       says ! e $ move ! (2 ∷ 4 ∷ []) $ join ! $ frame ! $ feqI ! (List Val) (vptr b o ∷ []) (vptr b o ∷ []) refl $ fjoin3 ! $
       nothing ! $ move ! (2 ∷ 0 ∷ []) $ fjoin ! $ move ! (2 ∷ 0 ∷ []) $ fjoin ! $ had (of-uint w64) ! t (refl, fits) $ fjoin ! $ move ! (1 ∷ 0 ∷ []) $ fjoin ! $ had outcomes ! r is $ move ! (1 ∷ 0 ∷ []) $ done !
 
-  module _ (C : Calls 𝓤 H) (Λ : Loops 𝓤 H) (fm : FmC 𝓤 H (W .laws) C) (known-offered : Triple 𝓤 (C #sender·offering·offered) (Offered 𝓤 H A mem′ run)) (known-is-refused : Triple 𝓤 (C #sender·offering·is-refused) (IsRefused 𝓤 H A mem′ run)) (known-with : Triple 𝓤 (C #sender·offering·with) (With 𝓤 H A mem′ run)) where
+  module _ (C : Calls 𝓤 H) (Λ : Loops 𝓤 H) (fm : FmC 𝓤 H (W .laws) C) (known-offered : Triple 𝓤 (C #sender·offering·offered) (Offered 𝓤 H A mem′ run)) (known-is-refused : Triple 𝓤 (C #packet·Outcome·is-refused) (IsRefused 𝓤 H A mem′ run)) (known-with : Triple 𝓤 (C #sender·offering·with) (With 𝓤 H A mem′ run)) where
     walk : t < 2 ^ 64 → Is (ShrSlice (named 1) κ₁ u8) s (v ∷ []) → ent 𝓤 (onEntry 𝓤 H A this.signature (κ, (κ₁, (κ₂, tt))) (q, (q₁, (q₂, tt))) args vals) (WpFn 𝓤 H C Λ code.function (vptr b o ∷ vint w64 t ∷ v ∷ u ∷ []) Post)
     walk fits p =
         qed W ((‵ (flft κ q) ⊛ ‵ (flft κ₁ q₁) ⊛ ‵ (flft κ₂ q₂) ⊛ ‵ ftrue) ∷ ‵ (owns (MutRef (named 0) κ S.the-row ∷ u64 ∷ ShrSlice (named 1) κ₁ u8 ∷ MutRef (named 2) κ₂ Lent ∷ []) args vals) ∷ []) ∵ split ! $ move ! (2 ∷ []) $ fsplit ! $ fsplit3 ! $ drop ! $
@@ -194,7 +195,7 @@ module _ {M : Type 1} (𝓤 : URA M) (H : Heap 𝓤) (A : Atoms 𝓤) (W : Given
         keep ! (0 ∷ 1 ∷ 2 ∷ 6 ∷ 3 ∷ 5 ∷ []) $ by ! (exits fits y′ (zs .1 .1 .1 .0) r
         (subst (λ (s' : Sender). Offers h (x .now) t (s .now) r s' (zs .1 .1 .1 .0)) (by-accepted h t r n (subst (λ (z : Bool). Holds (not z)) ey failed) ∙ sym ey′) e) is)))))))))))))))))))
 
-meets : {M : Type 1} (𝓤 : URA M) (H : Heap 𝓤) (A : Atoms 𝓤) (W : Given 𝓤 H A) (mem′ : Memory → SProp 𝓤) (run : Routine → Fun 𝓤) (𝓣 : Tables 𝓤 H) → Triple 𝓤 (𝓣 .C #sender·offering·offered) (Offered 𝓤 H A mem′ run) → Triple 𝓤 (𝓣 .C #sender·offering·is-refused) (IsRefused 𝓤 H A mem′ run) → Triple 𝓤 (𝓣 .C #sender·offering·with) (With 𝓤 H A mem′ run)
+meets : {M : Type 1} (𝓤 : URA M) (H : Heap 𝓤) (A : Atoms 𝓤) (W : Given 𝓤 H A) (mem′ : Memory → SProp 𝓤) (run : Routine → Fun 𝓤) (𝓣 : Tables 𝓤 H) → Triple 𝓤 (𝓣 .C #sender·offering·offered) (Offered 𝓤 H A mem′ run) → Triple 𝓤 (𝓣 .C #packet·Outcome·is-refused) (IsRefused 𝓤 H A mem′ run) → Triple 𝓤 (𝓣 .C #sender·offering·with) (With 𝓤 H A mem′ run)
     → Meets 𝓤 H A this.signature (WpFn 𝓤 H (𝓣 .C) (𝓣 .Λ) code.function) (this.spec 𝓤 H A mem′ run)
 meets 𝓤 H A W mem′ run 𝓣 known-offered known-is-refused known-with =
     walk-meets 𝓤 H A this.ended stayed W (goes-ref 𝓤 H A W 3 0 tt (plain (λ _. S.the-row)), (goes-none 𝓤 H A W 3 (λ _. u64) yes (λ κs x f. refl), (goes-none-slice 𝓤 H A W 3 (1 ∷ []) tt (plain (λ _. u8)) yes, (goes-gave-ref 𝓤 H A W 3 2 tt (arrayOf (plain (λ _. u8)) textsSize), tt)))) (this.clauses 𝓤 H A mem′ run)
@@ -211,5 +212,5 @@ offer-spec 𝓤 H 𝓜 𝓖 𝓡 =
     (tables 𝓤 H 𝓜 𝓡 code.env .C) (tables 𝓤 H 𝓜 𝓡 code.env .Λ) #sender·Sender·offer code.function (code.unfolded 𝓤 H 𝓜 𝓡)
     (meets 𝓤 H (𝓖 .A) (givenOf 𝓤 H 𝓜 𝓖) (𝓜 .mem) (𝓡 .run) (tablesOf 𝓤 H 𝓜 (tables 𝓤 H 𝓜 𝓡 code.env))
     (cited 𝓤 H (Offered 𝓤 H (𝓖 .A) (𝓜 .mem) (𝓡 .run)) 𝓜 𝓡 code.env #sender·offering·offered offered-def.routine code.calls-sender·offering·offered (offered-thm.met 𝓤 H 𝓜 𝓖 𝓡))
-    (cited 𝓤 H (IsRefused 𝓤 H (𝓖 .A) (𝓜 .mem) (𝓡 .run)) 𝓜 𝓡 code.env #sender·offering·is-refused is-refused-def.routine code.calls-sender·offering·is-refused (is-refused-thm.met 𝓤 H 𝓜 𝓖 𝓡))
+    (cited 𝓤 H (IsRefused 𝓤 H (𝓖 .A) (𝓜 .mem) (𝓡 .run)) 𝓜 𝓡 code.env #packet·Outcome·is-refused is-refused-def.routine code.calls-packet·Outcome·is-refused (is-refused-thm.met 𝓤 H 𝓜 𝓖 𝓡))
     (cited 𝓤 H (With 𝓤 H (𝓖 .A) (𝓜 .mem) (𝓡 .run)) 𝓜 𝓡 code.env #sender·offering·with with-def.routine code.calls-sender·offering·with (with-thm.met 𝓤 H 𝓜 𝓖 𝓡)))

@@ -1,6 +1,6 @@
 use borrow.Author.Needs.{needs}
-use Rattle.sender.proofs.offering.is_refused.Statement.{statement}
-use Rattle.sender.proofs.offering.is_refused.Tie as tie
+use Rattle.packet.proofs.Outcome.is_refused.Statement.{statement}
+use Rattle.packet.proofs.Outcome.is_refused.Tie as tie
 
 enum-told : tie.Need-enum-told
 enum-told c = search needs
