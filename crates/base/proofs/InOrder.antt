@@ -4,7 +4,7 @@ use mathlib.Core.Path.{_≡_, _∙_, refl, ap, ap₂}
 use mathlib.Core.List.{List, [], _∷_}
 use mathlib.Core.Bool.{Bool, true, false, cond}
 use native.Mathlib.Omega.{arith}
-use Rattle.base.specs.Checks.{Check, checked}
+use Rattle.base.specs.Checks.{Check, checked, numberBy}
 
 -- every number is a refusal's
 abbrev pub Positive : List Check → Type 0
@@ -14,10 +14,6 @@ Positive (c ∷ cs) = (1 ≤ c .number) × Positive cs
 abbrev pub NoneApplies : List Check → Type 0
 NoneApplies [] = Unit {0}
 NoneApplies (c ∷ cs) = (c .applies ≡ false) × NoneApplies cs
-
--- the number of the first that applies, 0 where none does
-abbrev pub firstOf : List Check → ℕ
-firstOf cs = checked (λ n. n) cs 0
 
 -- a function of what checks make
 pub checked-of : {A B : Type 0} (h : A → B) (refuse : ℕ → A) (cs : List Check) (x : A) → h (checked refuse cs x) ≡ checked (λ n. h (refuse n)) cs (h x)
@@ -31,29 +27,29 @@ checked-of {A} {B} h refuse (c ∷ cs) x = go (c .applies) (checked-of h refuse 
 
 -- where what is made of a number still tells it
 pub number-first : {A : Type 0} (number : A → ℕ) (refuse : ℕ → A) (cs : List Check) (x : A) → ((n : ℕ) → number (refuse n) ≡ n) → number x ≡ 0
-    → number (checked refuse cs x) ≡ firstOf cs
+    → number (checked refuse cs x) ≡ numberBy cs
 number-first number refuse cs x f e = checked-of number refuse cs x ∙ ap₂ {C = ℕ} (λ (g : ℕ → ℕ) (n : ℕ). checked g cs n) (λ i n. f n i) e
 
-pub refused-by : {A : Type 0} (refuse : ℕ → A) (cs : List Check) (x : A) (n : ℕ) → 1 ≤ n → firstOf cs ≡ n → checked refuse cs x ≡ refuse n
+pub refused-by : {A : Type 0} (refuse : ℕ → A) (cs : List Check) (x : A) (n : ℕ) → 1 ≤ n → numberBy cs ≡ n → checked refuse cs x ≡ refuse n
 refused-by refuse [] x n k e = absurd (omega arith)
 refused-by {A} refuse (c ∷ cs) x n k e = go (c .applies) (refused-by refuse cs x n k) e
   where
-    go : (b : Bool) → (firstOf cs ≡ n → checked refuse cs x ≡ refuse n) → cond b (c .number) (firstOf cs) ≡ n → cond b (refuse (c .number)) (checked refuse cs x) ≡ refuse n
+    go : (b : Bool) → (numberBy cs ≡ n → checked refuse cs x ≡ refuse n) → cond b (c .number) (numberBy cs) ≡ n → cond b (refuse (c .number)) (checked refuse cs x) ≡ refuse n
     go true f e = ap refuse e
     go false f e = f e
 
-pub passed-by : {A : Type 0} (refuse : ℕ → A) (cs : List Check) (x : A) → Positive cs → firstOf cs ≡ 0 → checked refuse cs x ≡ x
+pub passed-by : {A : Type 0} (refuse : ℕ → A) (cs : List Check) (x : A) → Positive cs → numberBy cs ≡ 0 → checked refuse cs x ≡ x
 passed-by refuse [] x h e = refl
 passed-by {A} refuse (c ∷ cs) x h e = go (c .applies) (passed-by refuse cs x (h .1)) e
   where
-    go : (b : Bool) → (firstOf cs ≡ 0 → checked refuse cs x ≡ x) → cond b (c .number) (firstOf cs) ≡ 0 → cond b (refuse (c .number)) (checked refuse cs x) ≡ x
+    go : (b : Bool) → (numberBy cs ≡ 0 → checked refuse cs x ≡ x) → cond b (c .number) (numberBy cs) ≡ 0 → cond b (refuse (c .number)) (checked refuse cs x) ≡ x
     go true f e = absurd (omega (arith, h .0))
     go false f e = f e
 
-pub none-applies : (cs : List Check) → Positive cs → firstOf cs ≡ 0 → NoneApplies cs
+pub none-applies : (cs : List Check) → Positive cs → numberBy cs ≡ 0 → NoneApplies cs
 none-applies [] h e = tt
 none-applies (c ∷ cs) h e = go (c .applies) refl e (none-applies cs (h .1))
   where
-    go : (b : Bool) → c .applies ≡ b → cond b (c .number) (firstOf cs) ≡ 0 → (firstOf cs ≡ 0 → NoneApplies cs) → NoneApplies (c ∷ cs)
+    go : (b : Bool) → c .applies ≡ b → cond b (c .number) (numberBy cs) ≡ 0 → (numberBy cs ≡ 0 → NoneApplies cs) → NoneApplies (c ∷ cs)
     go true q e f = absurd (omega (arith, h .0))
     go false q e f = (q, f e)

@@ -16,3 +16,7 @@ b gives n = record { applies = b; number = n }
 abbrev pub checked : {A : Type 0} → (ℕ → A) → List Check → A → A
 checked refuse [] passed = passed
 checked refuse (c ∷ cs) passed = cond (c .applies) (refuse (c .number)) (checked refuse cs passed)
+
+-- the number of the first that applies; 0, which is no refusal's, where none does
+abbrev pub numberBy : List Check → ℕ
+numberBy cs = checked (λ n. n) cs 0

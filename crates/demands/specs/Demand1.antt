@@ -6,39 +6,58 @@ use mathlib.Core.List.{List}
 use mathlib.Core.Logic.{_↔_}
 use mathlib.Core.Bool.{true, false}
 use lib.ListN.{length}
-use Rattle.base.specs.Checks.{checked}
+use Rattle.base.specs.Checks.{Check, checked}
 use Rattle.packet_spec.specs.Limits.{level}
+use Rattle.packet_spec.specs.Header.{Expected}
 use Rattle.packet_spec.specs.Reading.{refused, reading}
-use Rattle.receiver_spec.specs.Opening as receiver
-use Rattle.receiver_spec.specs.Opening.{Receiver, zeroReceiver}
-use Rattle.receiver_spec.specs.Step.{refuses, sourceExpected, stepOf}
-use Rattle.sender_spec.specs.State.{Settings, Sender, zeroSender}
+use Rattle.receiver_spec.specs.Opening.{Receiver, openingChecks, freshReceiver, zeroReceiver}
+use Rattle.receiver_spec.specs.Step.{refuses, sourceExpected}
+use Rattle.sender_spec.specs.State.{Settings, Sender, fresh, zeroSender}
 use Rattle.sender_spec.specs.Answers as answers
-use Rattle.sender_spec.specs.Opening as sender
-use Rattle.sender_spec.specs.Offering.{offerChecks, offerOf}
+use Rattle.sender_spec.specs.Settings.{settingsChecks}
+use Rattle.sender_spec.specs.Offering.{offerChecks}
 use Rattle.sender_spec.specs.Packets.{due, packetBytes}
-use Rattle.sender_spec.specs.Clocking.{clockChecks, senderAt, clockOf}
+use Rattle.sender_spec.specs.Clocking.{clockChecks}
+use Rattle.demands.specs.Line.{Line}
 
--- a number other than 0 is a refusal's
-pub record Demand1 : Type 0 where
-  -- a refused opening gives all zeros
-  pub receiver-opening : (t140 red n : ℕ) → receiver.openingOf t140 red .number ≡ suc n → receiver.openingOf t140 red .receiver ≡ zeroReceiver
-  pub sender-opening : (x : Settings) (n : ℕ) → sender.openingOf x .number ≡ suc n → sender.openingOf x .sender ≡ zeroSender
-  -- the step refuses what reading refuses, with its number, and then the receiver is as it came in
-  pub step-number : (r : Receiver) (p : List ℕ) (n : ℕ) → (stepOf r p .answer ≡ refuses n) ↔ (reading level (sourceExpected r) (r .t140) (r .red) p ≡ refused n)
-  pub step-refused : (r : Receiver) (p : List ℕ) (n : ℕ) → stepOf r p .answer ≡ refuses n → stepOf r p .receiver ≡ r
-  -- an offer's number is that of the first check that applies, and then the sender is as it came in
-  pub offer-number : (s : Sender) (t : ℕ) (x : List ℕ) → offerOf s t x .number ≡ checked (λ n. n) (offerChecks s t x) 0
-  pub offer-refused : (s : Sender) (t : ℕ) (x : List ℕ) (n : ℕ) → offerOf s t x .number ≡ suc n → offerOf s t x .sender ≡ s
-  -- so is the clock call's; behind its checks it is quiet where nothing is due, and 8 where the space is too short
-  pub clock-number : (s : Sender) (t : ℕ) (p : List ℕ) (n : ℕ) → checked (λ k. k) (clockChecks s t) 0 ≡ suc n → clockOf s t p .answer ≡ answers.refused (suc n)
-  pub clock-not-due : (s : Sender) (t : ℕ) (p : List ℕ) → checked (λ k. k) (clockChecks s t) 0 ≡ 0 → due s t ≡ false → clockOf s t p .answer ≡ answers.quiet
-  pub clock-space : (s : Sender) (t : ℕ) (p : List ℕ) → checked (λ k. k) (clockChecks s t) 0 ≡ 0 → due s t ≡ true → length p < length (packetBytes s t)
-      → clockOf s t p .answer ≡ answers.refused 8
-  -- a refused clock call alters no lent byte, nor does a quiet one, which keeps the clock alone
-  pub clock-refused : (s : Sender) (t : ℕ) (p : List ℕ) (n : ℕ) → clockOf s t p .answer ≡ answers.refused n → (clockOf s t p .sender ≡ s) × (clockOf s t p .lent ≡ p)
-  pub clock-quiet : (s : Sender) (t : ℕ) (p : List ℕ) → clockOf s t p .answer ≡ answers.quiet → (clockOf s t p .sender ≡ senderAt s t) × (clockOf s t p .lent ≡ p)
+-- the number of the first check that applies; 0, which is no refusal's, where none does
+abbrev pub numberBy : List Check → ℕ
+numberBy checks = checked (λ n. n) checks 0
+
+-- "only keeps t": every other field of a sender is as it was
+pub record OnlyClock (s : Sender) (t : ℕ) (s' : Sender) : Type 0 where
+  pub clock : s' .clock ≡ t
+  pub settings : s' .settings ≡ s .settings
+  pub waiting : s' .waiting ≡ s .waiting
+  pub since : s' .since ≡ s .since
+  pub kept : s' .kept ≡ s .kept
+  pub progress : s' .progress ≡ s .progress
+
+pub record Demand1 (l : Line) : Type 0 where
+  -- openings: where no check applies the receiver or sender is fresh, else it is all zeros
+  pub receiver-number : (t140 red : ℕ) → l .openReceiver t140 red .number ≡ numberBy (openingChecks t140 red)
+  pub receiver-opened : (t140 red : ℕ) → l .openReceiver t140 red .number ≡ 0 → l .openReceiver t140 red .receiver ≡ freshReceiver t140 red
+  pub receiver-refused : (t140 red n : ℕ) → l .openReceiver t140 red .number ≡ suc n → l .openReceiver t140 red .receiver ≡ zeroReceiver
+  pub sender-number : (x : Settings) → l .openSender x .number ≡ numberBy (settingsChecks x)
+  pub sender-opened : (x : Settings) → l .openSender x .number ≡ 0 → l .openSender x .sender ≡ fresh x
+  pub sender-refused : (x : Settings) (n : ℕ) → l .openSender x .number ≡ suc n → l .openSender x .sender ≡ zeroSender
+  -- a packet by itself is refused where the table says so, and only there
+  pub read-number : (e : Expected) (t140 red : ℕ) (p : List ℕ) (n : ℕ) → (l .read e t140 red p ≡ refused n) ↔ (reading level e t140 red p ≡ refused n)
+  -- so is one given to a receiver, which then is as it came in
+  pub step-number : (r : Receiver) (p : List ℕ) (n : ℕ) → (l .step r p .answer ≡ refuses n) ↔ (reading level (sourceExpected r) (r .t140) (r .red) p ≡ refused n)
+  pub step-refused : (r : Receiver) (p : List ℕ) (n : ℕ) → l .step r p .answer ≡ refuses n → l .step r p .receiver ≡ r
+  -- an offer: where it is refused the sender is as it came in
+  pub offer-number : (s : Sender) (t : ℕ) (x : List ℕ) → l .offer s t x .number ≡ numberBy (offerChecks s t x)
+  pub offer-refused : (s : Sender) (t : ℕ) (x : List ℕ) (n : ℕ) → l .offer s t x .number ≡ suc n → l .offer s t x .sender ≡ s
+  -- a clock call: behind its checks it is quiet where nothing is due, and 8 where the space is too short
+  pub clock-number : (s : Sender) (t : ℕ) (p : List ℕ) (n : ℕ) → numberBy (clockChecks s t) ≡ suc n → l .clock s t p .answer ≡ answers.refused (suc n)
+  pub clock-not-due : (s : Sender) (t : ℕ) (p : List ℕ) → numberBy (clockChecks s t) ≡ 0 → due s t ≡ false → l .clock s t p .answer ≡ answers.quiet
+  pub clock-space : (s : Sender) (t : ℕ) (p : List ℕ) → numberBy (clockChecks s t) ≡ 0 → due s t ≡ true → length p < length (packetBytes s t)
+      → l .clock s t p .answer ≡ answers.refused 8
+  -- refused, the sender is as it came in; quiet, it keeps the clock alone; in both no lent byte is altered
+  pub clock-refused : (s : Sender) (t : ℕ) (p : List ℕ) (n : ℕ) → l .clock s t p .answer ≡ answers.refused n → (l .clock s t p .sender ≡ s) × (l .clock s t p .lent ≡ p)
+  pub clock-quiet : (s : Sender) (t : ℕ) (p : List ℕ) → l .clock s t p .answer ≡ answers.quiet → OnlyClock s t (l .clock s t p .sender) × (l .clock s t p .lent ≡ p)
   -- a zero receiver answers 3 to every call, a zero sender 2
-  pub zero-receiver : (p : List ℕ) → stepOf zeroReceiver p .answer ≡ refuses 3
-  pub zero-offer : (t : ℕ) (x : List ℕ) → offerOf zeroSender t x .number ≡ 2
-  pub zero-clock : (t : ℕ) (p : List ℕ) → clockOf zeroSender t p .answer ≡ answers.refused 2
+  pub zero-receiver : (p : List ℕ) → l .step zeroReceiver p .answer ≡ refuses 3
+  pub zero-offer : (t : ℕ) (x : List ℕ) → l .offer zeroSender t x .number ≡ 2
+  pub zero-clock : (t : ℕ) (p : List ℕ) → l .clock zeroSender t p .answer ≡ answers.refused 2

@@ -1,29 +1,52 @@
--- Demand 2: what is written is read back, over lists of offers and clock calls; and a packet is written whenever one is due.
-use Prim.Native.Nat.{ℕ, _≤_}
+-- Demand 2: reading means what 01 and the RFCs say, writing likewise, and what is written is read back.
+use Prim.Native.Nat.{ℕ, suc, _≤_}
 use mathlib.Core.Path.{_≡_}
-use mathlib.Core.List.{List, [], _∷_}
+use mathlib.Core.List.{List, [], _∷_, _++_, map}
+use mathlib.Core.Logic.{_↔_}
 use mathlib.Core.Bool.{true}
-use lib.ListN.{length}
+use lib.ListN.{length, getD}
 use Rattle.base.specs.Arrays.{over}
-use Rattle.base.specs.Checks.{checked}
+use Rattle.text_spec.specs.Utf8.{Characters}
+use Rattle.text_spec.specs.WellFormed.{Letters}
 use Rattle.packet_spec.specs.Limits.{level}
-use Rattle.packet_spec.specs.Header.{Any}
-use Rattle.packet_spec.specs.Reading.{holds, reading}
+use Rattle.packet_spec.specs.Header.{Expected}
+use Rattle.packet_spec.specs.Redundancy.{joined}
+use Rattle.packet_spec.specs.Reading.{Content, holds, reading, blocks}
+use Rattle.packet_spec.specs.Encoding.{Admits}
+use Rattle.receiver_spec.specs.Opening.{Receiver}
+use Rattle.receiver_spec.specs.Step.{sourceExpected}
+use Rattle.receiver_spec.specs.Record.{isAccepted}
 use Rattle.sender_spec.specs.State.{Settings, Sender}
 use Rattle.sender_spec.specs.Answers as answers
-use Rattle.sender_spec.specs.Opening.{openingOf}
 use Rattle.sender_spec.specs.Packets.{due, packetBytes}
-use Rattle.sender_spec.specs.Clocking.{clockChecks, clockOf}
-use Rattle.demands.specs.Sending.{Call, Written, written}
+use Rattle.sender_spec.specs.Clocking.{clockChecks}
+use Rattle.demands.specs.Line.{Line}
+use Rattle.demands.specs.Sending.{Call, Written, written, typed, finally}
+use Rattle.demands.specs.Demand1.{numberBy}
 
--- each packet is accepted by the reader with the sender's payload types, and read back in all its fields: marker, sequence,
--- timestamp, source, older blocks with their offsets, primary
-abbrev pub ReadBack : Settings → List Written → Type 0
-ReadBack x [] = Unit {0}
-ReadBack x (w ∷ ws) = (reading level Any (x .t140) (x .red) (w .packet) ≡ holds (w .content)) × ReadBack x ws
+-- a packet is read, by every reader with the sender's payload types that expects its source, as what it was written as: marker,
+-- sequence, timestamp, source, older blocks with their offsets, primary; and a receiver with these types that has no source yet,
+-- or this one, accepts it
+pub record ReadBack (l : Line) (x : Settings) (w : Written) : Type 0 where
+  pub read : (e : Expected) → Admits e (x .source) → l .read e (x .t140) (x .red) (w .packet) ≡ holds (w .content)
+  pub accepted : (r : Receiver) → r .t140 ≡ x .t140 → r .red ≡ x .red → Admits (sourceExpected r) (x .source) → isAccepted (l .step r (w .packet) .answer) ≡ true
 
-pub record Demand2 : Type 0 where
-  pub read-back : (x : Settings) (calls : List Call) → openingOf x .number ≡ 0 → ReadBack x (written (openingOf x .sender) calls)
+abbrev pub AllReadBack : Line → Settings → List Written → Type 0
+AllReadBack l x [] = Unit {0}
+AllReadBack l x (w ∷ ws) = ReadBack l x w × AllReadBack l x ws
+
+pub record Demand2 (l : Line) : Type 0 where
+  -- text is letters of RFC 3629's table, one behind the other
+  pub letters : (s : List ℕ) (n : ℕ) → (l .text s ≡ Characters n) ↔ Letters n s
+  -- what a packet holds is 01's, and the bytes handed out as a block are that block's
+  pub reads : (e : Expected) (t140 red : ℕ) (p : List ℕ) → l .read e t140 red p ≡ reading level e t140 red p
+  pub hands-out : (e : Expected) (t140 red : ℕ) (p : List ℕ) (c : Content) (k : ℕ) → l .read e t140 red p ≡ holds c → l .block p c k ≡ getD (blocks c) k []
   -- a clock call that meets no check writes the packet where one is due and the space holds it
-  pub writes-when-due : (s : Sender) (t : ℕ) (p : List ℕ) → checked (λ n. n) (clockChecks s t) 0 ≡ 0 → due s t ≡ true → length (packetBytes s t) ≤ length p
-      → (clockOf s t p .answer ≡ answers.sent (length (packetBytes s t))) × (clockOf s t p .lent ≡ over (packetBytes s t) p)
+  pub writes-when-due : (s : Sender) (t : ℕ) (p : List ℕ) → numberBy (clockChecks s t) ≡ 0 → due s t ≡ true → length (packetBytes s t) ≤ length p
+      → (l .clock s t p .answer ≡ answers.sent (length (packetBytes s t))) × (l .clock s t p .lent ≡ over (packetBytes s t) p)
+  -- over every list of calls from an accepted opening: what was written is read back,
+  pub read-back : (x : Settings) (calls : List Call) → l .openSender x .number ≡ 0 → AllReadBack l x (written l (l .openSender x .sender) calls)
+  -- and the primaries, joined, and then what waits are the texts of the accepted offers: nothing is lost, doubled or moved
+  pub as-typed : (x : Settings) (calls : List Call) → l .openSender x .number ≡ 0
+      → joined (map (λ w. w .content .primary) (written l (l .openSender x .sender) calls)) ++ finally l (l .openSender x .sender) calls .waiting
+      ≡ typed l (l .openSender x .sender) calls

@@ -1,14 +1,13 @@
 -- Lists of offers and clock calls on one sender, and what they write (01, "The lists of demand 3").
-use Prim.Native.Nat.{ℕ}
+use Prim.Native.Nat.{ℕ, zero, suc}
 use mathlib.Core.List.{List, [], _∷_, _++_}
 use lib.ListN.{take}
 use Rattle.packet_spec.specs.Reading.{Content}
 use Rattle.sender_spec.specs.State.{Sender}
 use Rattle.sender_spec.specs.Answers as answers
 use Rattle.sender_spec.specs.Answers.{Answered}
-use Rattle.sender_spec.specs.Offering.{offerOf}
 use Rattle.sender_spec.specs.Packets.{contentOf}
-use Rattle.sender_spec.specs.Clocking.{clockOf}
+use Rattle.demands.specs.Line.{Line}
 
 -- at a clock: a text, or a clock call with a lent space
 pub data Call : Type 0 where
@@ -27,20 +26,34 @@ writtenBy (answers.refused n) lent t c = []
 writtenBy answers.quiet lent t c = []
 writtenBy (answers.sent n) lent t c = record { packet = take n lent; time = t; content = c } ∷ []
 
-abbrev pub writes : Sender → Call → List Written
-writes s (offer t x) = []
-writes s (clock t p) = writtenBy (clockOf s t p .answer) (clockOf s t p .lent) t (contentOf s t)
+-- the text of an offer that was answered with this number
+abbrev pub acceptedText : ℕ → List ℕ → List ℕ
+acceptedText zero x = x
+acceptedText (suc n) x = []
 
-abbrev pub after : Sender → Call → Sender
-after s (offer t x) = offerOf s t x .sender
-after s (clock t p) = clockOf s t p .sender
+module _ (l : Line) where
+  abbrev pub writes : Sender → Call → List Written
+  writes s (offer t x) = []
+  writes s (clock t p) = writtenBy (l .clock s t p .answer) (l .clock s t p .lent) t (contentOf s t)
 
--- each call gets the sender that the last call returned
-abbrev pub written : Sender → List Call → List Written
-written s [] = []
-written s (c ∷ cs) = writes s c ++ written (after s c) cs
+  abbrev pub offers : Sender → Call → List ℕ
+  offers s (offer t x) = acceptedText (l .offer s t x .number) x
+  offers s (clock t p) = []
 
--- the sender that the list leaves
-abbrev pub finally : Sender → List Call → Sender
-finally s [] = s
-finally s (c ∷ cs) = finally (after s c) cs
+  abbrev pub after : Sender → Call → Sender
+  after s (offer t x) = l .offer s t x .sender
+  after s (clock t p) = l .clock s t p .sender
+
+  -- each call gets the sender that the last call returned: what the list writes, the texts of its accepted offers, joined, and
+  -- the sender that it leaves
+  abbrev pub written : Sender → List Call → List Written
+  written s [] = []
+  written s (c ∷ cs) = writes s c ++ written (after s c) cs
+
+  abbrev pub typed : Sender → List Call → List ℕ
+  typed s [] = []
+  typed s (c ∷ cs) = offers s c ++ typed (after s c) cs
+
+  abbrev pub finally : Sender → List Call → Sender
+  finally s [] = s
+  finally s (c ∷ cs) = finally (after s c) cs

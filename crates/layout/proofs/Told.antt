@@ -8,17 +8,17 @@ use borrow.Author.Tests.{ltb-false}
 use Rattle.packet.specs.declared.Outcome.the-variants.{Accepted, Refused}
 use Rattle.packet.specs.declared.Refusal.{Refusal}
 use Rattle.layout.specs.declared.Layout.{Layout}
-use Rattle.base.specs.Checks.{checked}
+use Rattle.base.specs.Checks.{checked, numberBy}
 use Rattle.packet_spec.specs.Limits.{shortest}
 use Rattle.packet_spec.specs.Header.{headerEnd, payloadEnd}
 use Rattle.packet_spec.specs.Reading.{layoutChecks}
 use Rattle.packet.specs.Refusal.{number, outcomeNumber}
 use Rattle.layout.specs.Seen.{Seen, seen, refusedLayout, passedLayout, layoutOf}
-use Rattle.base.proofs.InOrder.{firstOf, number-first, refused-by, passed-by, none-applies}
+use Rattle.base.proofs.InOrder.{number-first, refused-by, passed-by, none-applies}
 use Rattle.packet.proofs.Names.{number-positive}
 
 module _ (p : List ℕ) (r : Layout) (told : seen r ≡ layoutOf p) where
-  first : outcomeNumber (r .outcome) ≡ firstOf (layoutChecks p)
+  first : outcomeNumber (r .outcome) ≡ numberBy (layoutChecks p)
   unfolding layoutOf
   first = ap (λ (s : Seen). s .number) told ∙ number-first (λ (s : Seen). s .number) refusedLayout (layoutChecks p) (passedLayout p) (λ n. refl) refl
 
@@ -26,7 +26,7 @@ module _ (p : List ℕ) (r : Layout) (told : seen r ≡ layoutOf p) where
   refused-told refuse x k o = refused-by refuse (layoutChecks p) x (number k) (number-positive k) (sym first ∙ ap outcomeNumber o)
 
   module _ (o : r .outcome ≡ Accepted) where
-    no-check : firstOf (layoutChecks p) ≡ 0
+    no-check : numberBy (layoutChecks p) ≡ 0
     no-check = sym first ∙ ap outcomeNumber o
 
     pub passed-told : {A : Type 0} (refuse : ℕ → A) (x : A) → checked refuse (layoutChecks p) x ≡ x

@@ -17,7 +17,7 @@ use Rattle.base.specs.Arrays.{part}
 use Rattle.packet_spec.specs.Limits.{level}
 use Rattle.packet_spec.specs.Header.{payloadEnd}
 use Rattle.packet_spec.specs.Redundancy.{Block, blocksOf, joined}
-use Rattle.packet_spec.specs.Reading.{Content, blocks, firstAt}
+use Rattle.packet_spec.specs.Reading.{Content, blocks, startsAt}
 use Rattle.packet.specs.Places.{none, placesFrom, placed, startOf, blockOf}
 use Rattle.base.proofs.PartOf.{part-slice}
 use Rattle.packet_spec.proofs.Runs.{reach, reach-total, run-fills}
@@ -63,27 +63,27 @@ middle : (e j o q : ℕ) → j ≡ o + q → j ≤ e → e - q ≡ e - j + o
 middle e j o q a b = omega arith
 
 module _ (n : ℕ) (p : List ℕ) (c : Content) (l : Lies p c) where
-  ends : firstAt p c + length (joined (blocks c)) ≡ payloadEnd p
+  ends : startsAt p c 0 + length (joined (blocks c)) ≡ payloadEnd p
   ends = let h = l .room in omega arith
 
-  primary-after : payloadEnd p - length (c .primary) ≡ firstAt p c + reach (blocks c) (length (c .older))
+  primary-after : payloadEnd p - length (c .primary) ≡ startsAt p c 0 + reach (blocks c) (length (c .older))
   primary-after = middle (payloadEnd p) (length (joined (blocks c))) (reach (blocks c) (length (c .older))) (length (c .primary)) (reach-older (c .older) (c .primary)) (l .room)
 
   -- where each block starts, and behind the primary the end
-  pub start-at : (k : ℕ) → k ≤ suc (length (c .older)) → startOf (placed n p c) k ≡ firstAt p c + reach (blocks c) k
+  pub start-at : (k : ℕ) → k ≤ suc (length (c .older)) → startOf (placed n p c) k ≡ startsAt p c 0 + reach (blocks c) k
   start-at k h = go (ltb k (length (c .older))) refl (eqb k (length (c .older))) refl
     where
-      go : (x : Bool) → ltb k (length (c .older)) ≡ x → (y : Bool) → eqb k (length (c .older)) ≡ y → startOf (placed n p c) k ≡ firstAt p c + reach (blocks c) k
+      go : (x : Bool) → ltb k (length (c .older)) ≡ x → (y : Bool) → eqb k (length (c .older)) ≡ y → startOf (placed n p c) k ≡ startsAt p c 0 + reach (blocks c) k
       go true q y r =
           let i : k < length (c .older) = ltb-true k (length (c .older)) q in
-          let z : length (placesFrom (firstAt p c) (c .older)) ≡ length (c .older) = places-length (firstAt p c) (c .older) in
+          let z : length (placesFrom (startsAt p c 0) (c .older)) ≡ length (c .older) = places-length (startsAt p c 0) (c .older) in
           start-older (placed n p c) k i
-          ∙ ap (λ (o : Older). o .at) (List·getD-append (placesFrom (firstAt p c) (c .older)) (replicate (n - length (placesFrom (firstAt p c) (c .older))) none) none k (omega (arith, z, i)))
-          ∙ older-at (firstAt p c) (c .older) (c .primary) k i
+          ∙ ap (λ (o : Older). o .at) (List·getD-append (placesFrom (startsAt p c 0) (c .older)) (replicate (n - length (placesFrom (startsAt p c 0) (c .older))) none) none k (omega (arith, z, i)))
+          ∙ older-at (startsAt p c 0) (c .older) (c .primary) k i
       go false q true r =
           let i : k ≡ length (c .older) = eqb-true k (length (c .older)) r in
           start-primary (placed n p c) k i ∙ primary-after
-          ∙ ap (λ (j : ℕ). firstAt p c + reach (blocks c) j) (sym i)
+          ∙ ap (λ (j : ℕ). startsAt p c 0 + reach (blocks c) j) (sym i)
       go false q false r =
           let i : length (c .older) ≤ k = ltb-false k (length (c .older)) q in
           let d : k ≡ length (c .older) → ⊥ = eqb-false k (length (c .older)) r in
@@ -91,26 +91,26 @@ module _ (n : ℕ) (p : List ℕ) (c : Content) (l : Lies p c) where
           let b : length (blocks c) ≤ k = omega (arith, blocks-length (c .older) (c .primary)) in
           start-end (placed n p c) k j
           ∙ sym ends
-          ∙ ap (λ (x : List (List ℕ)). firstAt p c + length (joined x)) (sym (take-all k (blocks c) b))
+          ∙ ap (λ (x : List (List ℕ)). startsAt p c 0 + length (joined x)) (sym (take-all k (blocks c) b))
 
   -- places lie in order and within the packet
   pub in-order : (i j : ℕ) → i ≤ j → j ≤ suc (length (c .older)) → startOf (placed n p c) i ≤ startOf (placed n p c) j
-  in-order i j h k = let r : reach (blocks c) i ≤ reach (blocks c) j = reach-mono (blocks c) i j h in rw (start-at i (le-trans h k), start-at j k) (add-left (firstAt p c) r)
+  in-order i j h k = let r : reach (blocks c) i ≤ reach (blocks c) j = reach-mono (blocks c) i j h in rw (start-at i (le-trans h k), start-at j k) (add-left (startsAt p c 0) r)
 
   pub within : (j : ℕ) → j ≤ suc (length (c .older)) → startOf (placed n p c) j ≤ length p
   within j k =
       let r : reach (blocks c) j ≤ length (joined (blocks c)) = reach-total (blocks c) j in
-      let f : firstAt p c + length (joined (blocks c)) ≡ payloadEnd p = ends in
+      let f : startsAt p c 0 + length (joined (blocks c)) ≡ payloadEnd p = ends in
       let i : payloadEnd p ≤ length p = l .inside in
-      rw (start-at j k) (le-trans (add-left (firstAt p c) r) (subst (λ (x : ℕ). x ≤ length p) (sym f) i))
+      rw (start-at j k) (le-trans (add-left (startsAt p c 0) r) (subst (λ (x : ℕ). x ≤ length p) (sym f) i))
 
   -- the bytes between two places are the blocks between them
   pub run-is : (i j : ℕ) → i ≤ j → j ≤ suc (length (c .older)) → part (startOf (placed n p c) i) (startOf (placed n p c) j) p ≡ joined (slice i j (blocks c))
   run-is i j h k =
       part-slice (startOf (placed n p c) i) (startOf (placed n p c) j) p (in-order i j h k) (within j k)
       ∙ ap (λ (x : ℕ). slice x (startOf (placed n p c) j) p) (start-at i (le-trans h k))
-      ∙ ap (λ (x : ℕ). slice (firstAt p c + reach (blocks c) i) x p) (start-at j k)
-      ∙ run-fills p (firstAt p c) (payloadEnd p) (blocks c) (l .fill) ends i j h
+      ∙ ap (λ (x : ℕ). slice (startsAt p c 0 + reach (blocks c) i) x p) (start-at j k)
+      ∙ run-fills p (startsAt p c 0) (payloadEnd p) (blocks c) (l .fill) ends i j h
 
   pub block-is : (k : ℕ) → k ≤ length (c .older) → k ≤ level → blockOf p (placed n p c) k ≡ getD (blocks c) k []
   block-is k h few =

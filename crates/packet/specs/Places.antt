@@ -14,7 +14,7 @@ use Rattle.packet_spec.specs.Limits.{level}
 use Rattle.packet.specs.Refusal.{outcomeNumber}
 use Rattle.packet_spec.specs.Header.{Expected, Any, Only, payloadEnd}
 use Rattle.packet_spec.specs.Redundancy.{Block}
-use Rattle.packet_spec.specs.Reading.{Content, Read, holds, refused, reading, firstAt}
+use Rattle.packet_spec.specs.Reading.{Content, Read, holds, refused, reading, startsAt}
 
 -- the source that is expected, in the terms of the definition
 abbrev pub sourceOf : code.Expected → Expected
@@ -48,7 +48,7 @@ placed n p c = record {
   timestamp = c .timestamp;
   source = c .source;
   count = length (c .older);
-  older = filled none n (placesFrom (firstAt p c) (c .older));
+  older = filled none n (placesFrom (startsAt p c 0) (c .older));
   primary = payloadEnd p - length (c .primary);
   end = payloadEnd p;
 }

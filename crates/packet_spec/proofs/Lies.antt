@@ -3,18 +3,20 @@
 use Prim.Native.Nat.{ℕ, suc, _+_, _-_, _≤_}
 use mathlib.Core.Path.{_≡_, _∙_, refl, ap, sym, subst}
 use mathlib.Core.List.{List, [], _∷_}
-use mathlib.Core.Bool.{true}
+use mathlib.Core.Bool.{Bool, true, false}
 use native.Mathlib.Omega.{arith}
-use lib.Dec.{eqb}
-use lib.ListN.{length, take, drop, length-drop, length-append}
-use lib.Seq.{slice, length-slice}
-use borrow.Author.Tests.{ltb-false, eqb-true, not-false}
+use lib.Dec.{ltb, eqb}
+use lib.ListN.{length, take, drop, getD, length-drop, length-append, List·getD-eq-default, drop-of-length-le}
+use lib.Seq.{slice, length-slice, slice-empty, drop-cons, take-append-seam}
+use borrow.Author.Tests.{ltb-true, ltb-false, eqb-true, not-false}
+use Rattle.base.specs.Arrays.{part}
 use Rattle.base.specs.Checks.{Check}
 use Rattle.packet_spec.specs.Limits.{longest}
 use Rattle.packet_spec.specs.Header.{Any, Only, Expected, headerEnd, payloadEnd, payload, sourceOf}
 use Rattle.packet_spec.specs.Redundancy.{Head, Block, olderOf, primaryOf, blocksOf, joined, allText}
-use Rattle.packet_spec.specs.Reading.{Content, Read, holds, inOrder, headerChecks, headsOf, content, blocksRead, reading, blocks, firstAt}
-use Rattle.base.proofs.Slices.{drop-slice, slice-end}
+use Rattle.packet_spec.specs.Reading.{Content, Read, holds, inOrder, headerChecks, headsOf, content, blocksRead, reading, blocks, startsAt, blockAt}
+use Rattle.base.proofs.PartOf.{part-slice}
+use Rattle.base.proofs.Slices.{take-slice, drop-slice, slice-end}
 use Rattle.packet_spec.proofs.Payload.{payload-inside}
 use Rattle.base.proofs.InOrder.{NoneApplies}
 use Rattle.packet_spec.proofs.Accepted.{Accepted, accepted, none-applies}
@@ -35,7 +37,7 @@ within-end l m k e h a b = omega arith
 pub record Lies (p : List ℕ) (c : Content) : Type 0 where
   pub inside : payloadEnd p ≤ length p
   pub room : length (joined (blocks c)) ≤ payloadEnd p
-  pub fill : slice (firstAt p c) (payloadEnd p) p ≡ joined (blocks c)
+  pub fill : slice (startsAt p c 0) (payloadEnd p) p ≡ joined (blocks c)
 
 -- the blocks from one on fill the payload's end
 pub rest-fills : (p : List ℕ) (c : Content) → Lies p c → (i : ℕ) → slice (payloadEnd p - length (joined (drop i (blocks c)))) (payloadEnd p) p ≡ joined (drop i (blocks c))
@@ -43,8 +45,47 @@ rest-fills p c l i =
     let bs = blocks c in
     let s : length (joined bs) ≡ reach bs i + length (joined (drop i bs)) = ap length (joined-split i bs) ∙ length-append (joined (take i bs)) (joined (drop i bs)) in
     let r : length (joined bs) ≤ payloadEnd p = l .room in
-    let f : payloadEnd p - length (joined (drop i bs)) ≡ firstAt p c + reach bs i = omega arith in
-    ap (λ (j : ℕ). slice j (payloadEnd p) p) f ∙ sym (drop-slice (firstAt p c) (payloadEnd p) p (reach bs i)) ∙ ap (drop (reach bs i)) (l .fill) ∙ joined-drop i bs
+    let f : payloadEnd p - length (joined (drop i bs)) ≡ startsAt p c 0 + reach bs i = omega arith in
+    ap (λ (j : ℕ). slice j (payloadEnd p) p) f ∙ sym (drop-slice (startsAt p c 0) (payloadEnd p) p (reach bs i)) ∙ ap (drop (reach bs i)) (l .fill) ∙ joined-drop i bs
+
+-- the bytes at a block's place are the block's; behind the primary there are none
+pub block-is : (p : List ℕ) (c : Content) → Lies p c → (k : ℕ) → blockAt p c k ≡ getD (blocks c) k []
+block-is p c l k = go (ltb k (length bs)) refl
+  where
+    bs : List (List ℕ)
+    bs = blocks c
+
+    inside : (i : ℕ) → length (joined (drop i bs)) ≤ payloadEnd p
+    inside i =
+        let s : length (joined bs) ≡ reach bs i + length (joined (drop i bs)) = ap length (joined-split i bs) ∙ length-append (joined (take i bs)) (joined (drop i bs)) in
+        let r : length (joined bs) ≤ payloadEnd p = l .room in
+        omega arith
+
+    go : (b : Bool) → ltb k (length bs) ≡ b → blockAt p c k ≡ getD bs k []
+    go true q =
+        let b = getD bs k [] in
+        let rest = drop (suc k) bs in
+        let d : drop k bs ≡ b ∷ rest = drop-cons bs k [] (ltb-true k (length bs) q) in
+        let n : length (joined (drop k bs)) ≡ length b + length (joined rest) = ap (λ (x : List (List ℕ)). length (joined x)) d ∙ length-append b (joined rest) in
+        let m : length (joined (drop k bs)) ≤ payloadEnd p = inside k in
+        let e : payloadEnd p ≤ length p = l .inside in
+        let t : startsAt p c (suc k) ≡ startsAt p c k + length b = omega arith in
+        part-slice (startsAt p c k) (startsAt p c (suc k)) p (omega arith) (omega arith)
+        ∙ ap (λ (x : ℕ). slice (startsAt p c k) x p) t
+        ∙ sym (take-slice (startsAt p c k) (payloadEnd p) p (length b) (omega arith))
+        ∙ ap (take (length b)) (rest-fills p c l k ∙ ap joined d)
+        ∙ take-append-seam b (joined rest)
+    go false q =
+        let h : length bs ≤ k = ltb-false k (length bs) q in
+        let d : drop k bs ≡ [] = drop-of-length-le bs h in
+        let g : length bs ≤ suc k = omega arith in
+        let f : drop (suc k) bs ≡ [] = drop-of-length-le bs g in
+        let x : startsAt p c k ≡ startsAt p c (suc k) = ap (λ (y : List (List ℕ)). payloadEnd p - length (joined y)) (d ∙ sym f) in
+        let e : payloadEnd p ≤ length p = l .inside in
+        ap (λ (a : ℕ). part a (startsAt p c (suc k)) p) x
+        ∙ part-slice (startsAt p c (suc k)) (startsAt p c (suc k)) p (omega arith) (omega arith)
+        ∙ slice-empty (startsAt p c (suc k)) p
+        ∙ sym (List·getD-eq-default bs [] h)
 
 module _ (n : ℕ) (expected : Expected) (t140 red : ℕ) (p : List ℕ) (c : Content) (e : reading n expected t140 red p ≡ holds c) where
   is-accepted : Accepted n expected t140 red p c
@@ -63,7 +104,7 @@ module _ (n : ℕ) (expected : Expected) (t140 red : ℕ) (p : List ℕ) (c : Co
       let ls : length s ≡ length m - a .from = ap length (a .behind) ∙ length-drop (a .from) m in
       let lj : length (joined (blocks k)) ≡ length s = ap length (cut-joined hs s) in
       let se : length s ≤ payloadEnd p = within-end (length s) (length m) (a .from) (payloadEnd p) (headerEnd p) ls lm in
-      let fill : slice (firstAt p k) (payloadEnd p) p ≡ joined (blocks k) =
+      let fill : slice (startsAt p k 0) (payloadEnd p) p ≡ joined (blocks k) =
       ap (λ (j : ℕ). slice (payloadEnd p - j) (payloadEnd p) p) lj
       ∙ ap (λ (l : List ℕ). slice (payloadEnd p - length l) (payloadEnd p) p) (a .behind)
       ∙ slice-end (headerEnd p) (payloadEnd p) p (a .from) h i

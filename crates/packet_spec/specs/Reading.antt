@@ -1,9 +1,10 @@
 -- 01's "Reading a packet": the refusal that a packet meets first, or what it holds.
-use Prim.Native.Nat.{ℕ, _-_}
+use Prim.Native.Nat.{ℕ, suc, _-_}
 use mathlib.Core.List.{List, [], _∷_}
 use mathlib.Core.Bool.{Bool, cond, not}
 use lib.Dec.{ltb, eqb}
 use lib.ListN.{length, take, drop}
+use Rattle.base.specs.Arrays.{part}
 use Rattle.base.specs.Checks.{Check, _gives_, checked}
 use Rattle.packet_spec.specs.Limits.{shortest, longest}
 use Rattle.packet_spec.specs.Header.{version, headerEnd, paddingBad, payloadType, payloadEnd, payload, typesBad, otherType, Expected, Any, otherSource, markerOf, sequenceOf, timestampOf, sourceOf}
@@ -75,6 +76,10 @@ reading level expected t140 red p = inOrder (headerChecks expected t140 red p) (
 abbrev pub blocks : Content → List (List ℕ)
 blocks c = blocksOf (c .older) (c .primary)
 
--- they fill the end of the payload: where the oldest starts
-abbrev pub firstAt : List ℕ → Content → ℕ
-firstAt p c = payloadEnd p - length (joined (blocks c))
+-- they fill the end of the payload: where block k starts, 0 the oldest; behind the primary, the end
+abbrev pub startsAt : List ℕ → Content → ℕ → ℕ
+startsAt p c k = payloadEnd p - length (joined (drop k (blocks c)))
+
+-- the bytes of the packet that are handed out as block k
+abbrev pub blockAt : List ℕ → Content → ℕ → List ℕ
+blockAt p c k = part (startsAt p c k) (startsAt p c (suc k)) p

@@ -21,7 +21,8 @@ use Rattle.header.specs.Seen.{Seen, refusedHeader, passedHeader, headerOf}
 use Rattle.blocks.specs.Placing.{headPlaces}
 use Rattle.blocks.specs.Seen as seen
 use Rattle.blocks.specs.Seen.{refusedBlocks, placedBlocks, seenBehind, blocksOf}
-use Rattle.base.proofs.InOrder.{firstOf, number-first, refused-by, passed-by, none-applies}
+use Rattle.base.specs.Checks.{numberBy}
+use Rattle.base.proofs.InOrder.{number-first, refused-by, passed-by, none-applies}
 use Rattle.packet_spec.proofs.Payload.{payload-inside}
 use Rattle.packet_spec.proofs.Numbers.{Positive, reading-positive}
 use Rattle.packet_spec.proofs.Runs.{cut-joined}
@@ -68,7 +69,7 @@ placed-is p hs s fit room =
       end = e;
     }
 
-blocks-first : (p : List ℕ) (hs : List Head) (s : List ℕ) → seenBehind (payloadEnd p) (heads hs s) .number ≡ firstOf (blockChecks hs s)
+blocks-first : (p : List ℕ) (hs : List Head) (s : List ℕ) → seenBehind (payloadEnd p) (heads hs s) .number ≡ numberBy (blockChecks hs s)
 blocks-first p hs s = number-first (λ (b : seen.Seen). b .number) refusedBlocks (blockChecks hs s) (placedBlocks (payloadEnd p) hs s) (λ n. refl) refl
 
 -- the blocks behind the headers
@@ -82,7 +83,7 @@ module _ (p : List ℕ) where
       → record { number = 0; packet = withBlocks p (seenBehind (payloadEnd p) h) } ≡ answer level p (blocksRead p h)
   seen-placed (bad k) positive room e = absurd (omega arith)
   seen-placed (heads hs s) positive room e =
-      let z : firstOf (blockChecks hs s) ≡ 0 = sym (blocks-first p hs s) ∙ e in
+      let z : numberBy (blockChecks hs s) ≡ 0 = sym (blocks-first p hs s) ∙ e in
       let held : blocksRead p (heads hs s) ≡ holds (content p hs s) = passed-by refused (blockChecks hs s) (holds (content p hs s)) (search needs) z in
       let fit : total hs ≤ length s = ltb-false (length s) (total hs) (none-applies (blockChecks hs s) (search needs) z .0) in
       let l : length (joined (blocks (content p hs s))) ≡ length s = ap length (cut-joined hs s) in
@@ -92,7 +93,7 @@ module _ (p : List ℕ) where
       ∙ ap (answer level p) (sym held)
 
 module _ (e : Expected) (t140 red : ℕ) (p : List ℕ) where
-  header-first : headerOf e t140 red p .number ≡ firstOf (headerChecks e t140 red p)
+  header-first : headerOf e t140 red p .number ≡ numberBy (headerChecks e t140 red p)
   unfolding headerOf
   header-first = number-first (λ (h : Seen). h .number) refusedHeader (headerChecks e t140 red p) (passedHeader t140 p) (λ n. refl) refl
 
@@ -102,7 +103,7 @@ module _ (e : Expected) (t140 red : ℕ) (p : List ℕ) where
       ap (answer level p) (sym (refused-by refused (headerChecks e t140 red p) (blocksRead p (headsOf level t140 p)) n l (sym header-first ∙ h)))
 
   module _ (passed : headerOf e t140 red p .number ≡ 0) where
-    no-check : firstOf (headerChecks e t140 red p) ≡ 0
+    no-check : numberBy (headerChecks e t140 red p) ≡ 0
     no-check = sym header-first ∙ passed
 
     pub header-passed : headerOf e t140 red p ≡ passedHeader t140 p

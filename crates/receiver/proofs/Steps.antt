@@ -13,7 +13,7 @@ use Rattle.packet.specs.declared.Refusal.{Refusal}
 use Rattle.packet_spec.specs.Limits.{level}
 use Rattle.packet_spec.specs.Header.{payloadEnd}
 use Rattle.packet_spec.specs.Redundancy.{joined}
-use Rattle.packet_spec.specs.Reading.{Content, holds, reading, blocks, firstAt}
+use Rattle.packet_spec.specs.Reading.{Content, holds, reading, blocks, startsAt}
 use Rattle.packet.specs.Refusal.{number}
 use Rattle.packet.specs.Places.{numbered, placed, startOf, readOf}
 use Rattle.delivery.specs.Numbers.{Course, forward, late, courseOf, distance}
@@ -46,7 +46,7 @@ module _ (r : Receiver) (p : List ℕ) (c : Content) (l : Lies p c) where
       let k : length bs - suc w ≡ n - w = omega arith in
       let s : length (joined bs) ≡ reach bs (n - w) + length (joined (drop (n - w) bs)) = ap length (joined-split (n - w) bs) ∙ length-append (joined (take (n - w) bs)) (joined (drop (n - w) bs)) in
       let room : length (joined bs) ≤ payloadEnd p = l .room in
-      let f : firstAt p c + reach bs (n - w) ≡ payloadEnd p - length (joined (drop (n - w) bs)) = omega arith in
+      let f : startsAt p c 0 + reach bs (n - w) ≡ payloadEnd p - length (joined (drop (n - w) bs)) = omega arith in
       start-at level p c l (n - w) (omega arith) ∙ f ∙ ap (λ (i : ℕ). payloadEnd p - length (joined (drop i bs))) (sym k)
 
   follows : (marks : ℕ) (z : ℤ) (w : ℕ) → w ≤ length (c .older) → followed r (placed level p c) marks z w ≡ record { receiver = movedTo r c; answer = gives (givenFrom p c marks z w) }

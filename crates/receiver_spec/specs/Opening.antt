@@ -1,8 +1,8 @@
 -- Opening a receiver: check 3 alone; a refused opening gives a receiver of all zeros.
 use Prim.Native.Nat.{ℕ}
-use mathlib.Core.List.{[], _∷_}
+use mathlib.Core.List.{List, [], _∷_}
 use mathlib.Core.Bool.{Bool, false}
-use Rattle.base.specs.Checks.{_gives_, checked}
+use Rattle.base.specs.Checks.{Check, _gives_, checked}
 use Rattle.packet_spec.specs.Header.{typesBad}
 
 -- the payload types; the source, once the first packet was accepted; the sequence number that is expected next
@@ -27,5 +27,8 @@ pub record Opening : Type 0 where
 abbrev pub openingRefused : ℕ → Opening
 openingRefused n = record { number = n; receiver = zeroReceiver }
 
+abbrev pub openingChecks : ℕ → ℕ → List Check
+openingChecks t140 red = typesBad t140 red gives 3 ∷ []
+
 abbrev pub openingOf : ℕ → ℕ → Opening
-openingOf t140 red = checked openingRefused (typesBad t140 red gives 3 ∷ []) (record { number = 0; receiver = freshReceiver t140 red })
+openingOf t140 red = checked openingRefused (openingChecks t140 red) (record { number = 0; receiver = freshReceiver t140 red })

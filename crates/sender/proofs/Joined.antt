@@ -12,8 +12,8 @@ use Rattle.packet.specs.declared.Outcome.{Outcome}
 use Rattle.packet.specs.declared.Outcome.the-variants.{Accepted, Refused}
 use Rattle.packet.specs.Refusal.{number}
 use Rattle.packet.proofs.Names.{number-positive}
-use Rattle.base.specs.Checks.{Check}
-use Rattle.base.proofs.InOrder.{NoneApplies, firstOf, number-first, refused-by, none-applies}
+use Rattle.base.specs.Checks.{Check, numberBy}
+use Rattle.base.proofs.InOrder.{NoneApplies, number-first, refused-by, none-applies}
 use Rattle.text_spec.specs.Utf8.{isText}
 use Rattle.sender_spec.specs.Limits.{roomSize}
 use Rattle.sender_spec.specs.State as State
@@ -69,10 +69,10 @@ abbrev rest : List Check → List Check
 rest [] = []
 rest (c ∷ cs) = cs
 
-offer-passed : (s : State.Sender) (t : ℕ) (x : List ℕ) → firstOf (offerChecks s t x) ≡ 0
+offer-passed : (s : State.Sender) (t : ℕ) (x : List ℕ) → numberBy (offerChecks s t x) ≡ 0
     → (length (s .waiting) + length x ≤ roomSize) × (offerOf s t x ≡ record { number = 0; sender = senderWith s t x })
 offer-passed s t x e =
-    let p = past (settingsNumber (s .settings)) (firstOf (rest (offerChecks s t x))) e in
+    let p = past (settingsNumber (s .settings)) (numberBy (rest (offerChecks s t x))) e in
     let h : NoneApplies (rest (offerChecks s t x)) = none-applies (rest (offerChecks s t x)) (omega arith, (omega arith, (omega arith, (omega arith, tt)))) (p .1) in
     let room : length (s .waiting) + length x ≤ roomSize = ltb-false roomSize (length (s .waiting) + length x) (h .1 .1 .1 .0) in
     (room, offer-joined s t x 0 (sym (p .0)) refl (ltb-false t (s .clock) (h .0)) (eqb-false (length x) 0 (h .1 .0)) (not-false (isText x) (h .1 .1 .0)) room)
@@ -82,13 +82,13 @@ module _ (s : Sender) (texts : List ℕ) (t : ℕ) (x : List ℕ) (few : 1 + len
   state = stateOf s texts
 
   -- no check looks at more of the sender
-  first : (n : ℕ) → n ≡ offerOf (senderWhere (s .settings) (s .clock) (state .waiting)) t x .number → firstOf (offerChecks state t x) ≡ n
+  first : (n : ℕ) → n ≡ offerOf (senderWhere (s .settings) (s .clock) (state .waiting)) t x .number → numberBy (offerChecks state t x) ≡ n
   unfolding offerOf
   first n e =
       let asked = senderWhere (s .settings) (s .clock) (state .waiting) in
       sym (e ∙ number-first (λ (r : Numbered). r .number) (offerRefused asked) (offerChecks asked t x) (record { number = 0; sender = senderWith asked t x }) (λ n. refl) refl)
 
-  refused-is : (n : ℕ) → 1 ≤ n → firstOf (offerChecks state t x) ≡ n → offerOf state t x ≡ offerRefused state n
+  refused-is : (n : ℕ) → 1 ≤ n → numberBy (offerChecks state t x) ≡ n → offerOf state t x ≡ offerRefused state n
   unfolding offerOf
   refused-is n k e = refused-by (offerRefused state) (offerChecks state t x) (record { number = 0; sender = senderWith state t x }) n k e
 

@@ -6,7 +6,7 @@ use lib.Dec.{ltb, eqb}
 use Rattle.sender_spec.specs.State.{Settings}
 use Rattle.packet_spec.specs.Limits.{level}
 use Rattle.packet_spec.specs.Header.{typesBad}
-use Rattle.base.specs.Checks.{Check, _gives_, checked}
+use Rattle.base.specs.Checks.{Check, _gives_, numberBy}
 use Rattle.sender_spec.specs.Limits.{longestBuffering}
 
 -- "buffering time 0 or above 500"
@@ -23,7 +23,7 @@ settingsChecks s =
 
 -- the number of the first that applies; 0 where none does
 unfoldable pub settingsNumber : Settings → ℕ
-settingsNumber s = checked (λ n. n) (settingsChecks s) 0
+settingsNumber s = numberBy (settingsChecks s)
 
 -- the three as one check: an opening makes it, and "Every call on either first repeats its opening's checks on the settings
 -- held"
