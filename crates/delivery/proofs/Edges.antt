@@ -6,7 +6,7 @@ use native.Mathlib.Omega.{arith}
 use lib.ListN.{length, length-append}
 use Rattle.delivery.specs.Numbers.{mostAhead, mostBehind, wrapped, next, distance, Course}
 use Rattle.delivery.specs.Record.{Entry, block, fresh, expects, addsAt, adds, recordFrom}
-use Rattle.delivery.specs.Sending.{Sender, sent}
+use Rattle.delivery.specs.Sending.{Sender, InOrder, sent}
 use Rattle.delivery.specs.Claim.{Near, newestOnArrival, entry, expected}
 use Rattle.delivery.proofs.Counts.{first-adds, forward-adds}
 use Rattle.delivery.proofs.Wrap.{course-forward, course-late}
@@ -15,13 +15,10 @@ use Rattle.delivery.proofs.Delivered.{delivered}
 
 -- a sender that repeats nothing; block k holds the number k
 abbrev pub alone : ℕ → Sender
-alone f = record {
-  first = f;
-  block = λ k. k ∷ [];
-  oldest = λ k. k;
-  oldest-le = λ k. omega arith;
-  oldest-rises = λ k. omega arith;
-}
+alone f = record { first = f; block = λ k. k ∷ []; oldest = λ k. k; newest = λ k. k }
+
+alone-in-order : (f : ℕ) → InOrder (alone f)
+alone-in-order f = record { oldest-le = λ k. omega arith; oldest-rises = λ k. omega arith; newest-rises = λ k. omega arith }
 
 -- packet 0, then packet k
 abbrev pub ahead : ℕ → List ℕ
@@ -31,18 +28,18 @@ ahead k = 0 ∷ k ∷ []
 abbrev pub behind : ℕ → List ℕ
 behind k = k ∷ 0 ∷ []
 
-pub most-ahead-near : Near (ahead mostAhead)
-most-ahead-near = (omega arith, omega arith, tt)
-
-pub most-behind-near : Near (behind mostBehind)
-most-behind-near = (omega arith, omega arith, tt)
-
 module _ (f : ℕ) where
+  pub most-ahead-near : Near (alone f) (ahead mostAhead)
+  most-ahead-near = (omega arith, omega arith, tt)
+
+  pub most-behind-near : Near (alone f) (behind mostBehind)
+  most-behind-near = (omega arith, omega arith, tt)
+
   pub most-ahead-delivered : recordFrom fresh (map (sent (alone f)) (ahead mostAhead)) ≡ expected (alone f) (ahead mostAhead)
-  most-ahead-delivered = delivered (alone f) (ahead mostAhead) most-ahead-near
+  most-ahead-delivered = delivered (alone f) (alone-in-order f) (ahead mostAhead) most-ahead-near
 
   pub most-behind-delivered : recordFrom fresh (map (sent (alone f)) (behind mostBehind)) ≡ expected (alone f) (behind mostBehind)
-  most-behind-delivered = delivered (alone f) (behind mostBehind) most-behind-near
+  most-behind-delivered = delivered (alone f) (alone-in-order f) (behind mostBehind) most-behind-near
 
   -- one further ahead is taken for late: the record has one entry, and one is expected for each block from 0 to k
   ahead-fails : (k : ℕ) → k ≡ suc mostAhead → recordFrom fresh (map (sent (alone f)) (ahead k)) ≡ expected (alone f) (ahead k) → ⊥
@@ -53,7 +50,7 @@ module _ (f : ℕ) where
       let recorded : length (recordFrom fresh (map (sent (alone f)) (ahead k))) ≡ 1 =
       ap (λ (l : List Entry). length (block (0 ∷ []) ∷ (l ++ []))) nothing in
       let needed : length (expected (alone f) (ahead k)) ≡ suc (max 0 k) - 0 =
-      length-map-range (entry (alone f) (newestOnArrival (ahead k))) 0 (suc (max 0 k) - 0) in
+      length-map-range (entry (alone f) (newestOnArrival (alone f) (ahead k))) 0 (suc (max 0 k) - 0) in
       let same : 1 ≡ suc (max 0 k) - 0 = sym recorded ∙ ap length claim ∙ needed in
       omega arith
 
@@ -67,7 +64,7 @@ module _ (f : ℕ) where
       let more : length new ≡ suc d =
       ap (λ (c : Course). length (addsAt c d (sent (alone f) 0))) (course-forward d (omega arith)) ∙ forward-adds (sent (alone f) 0) d in
       let needed : length (expected (alone f) (behind k)) ≡ suc (max k 0) - k =
-      length-map-range (entry (alone f) (newestOnArrival (behind k))) k (suc (max k 0) - k) in
+      length-map-range (entry (alone f) (newestOnArrival (alone f) (behind k))) k (suc (max k 0) - k) in
       let same : length (old ++ (new ++ [])) ≡ suc (max k 0) - k = ap length claim ∙ needed in
       omega (arith, length-append old (new ++ []), length-append new [])
 

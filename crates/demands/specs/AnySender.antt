@@ -7,9 +7,9 @@ use Rattle.packet_spec.specs.Header.{Any}
 use Rattle.packet_spec.specs.Redundancy.{joined}
 use Rattle.packet_spec.specs.Reading.{Content, holds, reading}
 use Rattle.delivery.specs.Numbers.{wrapped}
-use Rattle.delivery.specs.Sending.{Sender, range}
+use Rattle.delivery.specs.Sending.{range}
 use Rattle.delivery.specs.Claim.{Near, expected}
-use Rattle.delivery.specs.Run.{oldestOf, Rules}
+use Rattle.delivery.specs.Run.{oldestOf, Rules, senderOf}
 use Rattle.receiver_spec.specs.Opening.{Receiver, openingOf}
 use Rattle.receiver_spec.specs.Step.{stepOf, textGiven}
 use Rattle.receiver_spec.specs.Record.{blocksGiven, recordOf, acceptedOf}
@@ -26,20 +26,12 @@ pub record KeepsRules (t140 red : ℕ) (rules : Rules) (packet : ℕ → List �
   pub small : rules .level ≤ level
   pub reads : (k : ℕ) (c : Content) → reading level Any t140 red (packet k) ≡ holds c → IsPacket rules k c
 
--- a sender of delivery's claim that sends by these rules
-pub record ByRules (rules : Rules) (S : Sender) : Type 0 where
-  pub first : S .first ≡ rules .first
-  pub block : (k : ℕ) → S .block k ≡ rules .block k
-  pub oldest : (k : ℕ) → S .oldest k ≡ oldestOf (rules .level) (rules .time) k
-
 pub record AnySender : Type 0 where
-  -- there is one for all rules
-  pub sender : (rules : Rules) → (S : Sender) × ByRules rules S
   -- whatever list of packets is given to the receiver of an accepted opening, refused ones included: where the accepted ones
   -- are copies of the sender's packets ks, each near the newest accepted before it, the record is the expected one
   pub recorded : (t140 red : ℕ) → openingOf t140 red .number ≡ 0
-      → (rules : Rules) (packet : ℕ → List ℕ) → KeepsRules t140 red rules packet → (S : Sender) → ByRules rules S
-      → (given : List (List ℕ)) (ks : List ℕ) → acceptedOf (openingOf t140 red .receiver) given ≡ map packet ks → Near ks
-      → recordOf (openingOf t140 red .receiver) given ≡ expected S ks
+      → (rules : Rules) (packet : ℕ → List ℕ) → KeepsRules t140 red rules packet
+      → (given : List (List ℕ)) (ks : List ℕ) → acceptedOf (openingOf t140 red .receiver) given ≡ map packet ks → Near (senderOf rules) ks
+      → recordOf (openingOf t140 red .receiver) given ≡ expected (senderOf rules) ks
   -- at every step the bytes of the blocks given, joined, are the text handed out
   pub text : (r : Receiver) (p : List ℕ) → textGiven p (stepOf r p .answer) ≡ joined (blocksGiven r p (stepOf r p .answer))

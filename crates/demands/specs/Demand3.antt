@@ -4,14 +4,13 @@ use mathlib.Core.Path.{_≡_}
 use mathlib.Core.List.{List, [], _∷_, map}
 use mathlib.Core.Bool.{Bool, true, false}
 use lib.ListN.{length, getD}
-use Rattle.delivery.specs.Sending.{Sender}
 use Rattle.delivery.specs.Claim.{Near, expected}
-use Rattle.delivery.specs.Run.{Rules}
+use Rattle.delivery.specs.Run.{Rules, senderOf}
 use Rattle.receiver_spec.specs.Opening as receiver
 use Rattle.receiver_spec.specs.Record.{recordOf, acceptedOf}
 use Rattle.sender_spec.specs.State.{Settings}
 use Rattle.sender_spec.specs.Opening.{openingOf}
-use Rattle.demands.specs.AnySender.{KeepsRules, ByRules, AnySender}
+use Rattle.demands.specs.AnySender.{KeepsRules, AnySender}
 use Rattle.demands.specs.Sending.{Call, Written, written}
 
 -- the bytes of packet k; past the last packet none, which the reader refuses
@@ -34,9 +33,9 @@ pub record OursKeeps (x : Settings) (ws : List Written) : Type 0 where
   pub keeps : KeepsRules (x .t140) (x .red) rules (packetAt ws)
   pub spaced : SpacedAfter false 0 (x .buffering) ws
   -- and so the record of whatever copies of them a receiver is given is the expected one
-  pub recorded : (S : Sender) → ByRules rules S → (given : List (List ℕ)) (ks : List ℕ)
-      → acceptedOf (receiver.openingOf (x .t140) (x .red) .receiver) given ≡ map (packetAt ws) ks → Near ks
-      → recordOf (receiver.openingOf (x .t140) (x .red) .receiver) given ≡ expected S ks
+  pub recorded : (given : List (List ℕ)) (ks : List ℕ)
+      → acceptedOf (receiver.openingOf (x .t140) (x .red) .receiver) given ≡ map (packetAt ws) ks → Near (senderOf rules) ks
+      → recordOf (receiver.openingOf (x .t140) (x .red) .receiver) given ≡ expected (senderOf rules) ks
 
 pub record Demand3 : Type 0 where
   pub any-sender : AnySender
