@@ -1,11 +1,12 @@
 -- Demand 1.
 use Prim.Native.Nat.{ℕ, suc}
-use mathlib.Core.Path.{_≡_, refl, ap}
+use mathlib.Core.Path.{_≡_, refl, ap, sym}
 use mathlib.Core.List.{List}
 use mathlib.Core.Bool.{Bool, true, false, cond, not}
 use native.Mathlib.Omega.{arith}
 use lib.Dec.{eqb}
-use Rattle.base.specs.Checks.{checked}
+use borrow.Author.Tests.{eqb-true}
+use Rattle.base.specs.Checks.{numberBy}
 use Rattle.packet_spec.specs.Limits.{level}
 use Rattle.packet_spec.specs.Header.{typesBad}
 use Rattle.packet_spec.specs.Reading.{Content, Read, holds, refused, reading}
@@ -16,29 +17,51 @@ use Rattle.receiver_spec.specs.Step.{refuses, sourceExpected, stepRead, firstSt
 use Rattle.sender_spec.specs.State.{Settings, Sender, fresh, zeroSender}
 use Rattle.sender_spec.specs.Answers as answers
 use Rattle.sender_spec.specs.Answers.{Numbered, ClockResult}
-use Rattle.sender_spec.specs.Settings.{settingsNumber}
+use Rattle.sender_spec.specs.Settings.{settingsChecks, settingsNumber}
 use Rattle.sender_spec.specs.Opening as sender
 use Rattle.sender_spec.specs.Offering.{offerChecks, offerOf, senderWith, offerRefused}
 use Rattle.sender_spec.specs.Clocking.{clockChecks, senderAt, clockOf, clockRefused}
-use Rattle.demands.specs.Demand1.{Demand1}
+use Rattle.demands.specs.Line.{ours}
+use Rattle.demands.specs.Demand1.{OnlyClock, Demand1}
 use Rattle.base.proofs.InOrder.{checked-of, refused-by}
 use Rattle.sender_spec.proofs.Calls as calls
-use Rattle.sender_spec.proofs.Accepted.{clock-passed}
+use Rattle.sender_spec.proofs.Accepted.{open-passed, clock-passed}
 use Rattle.sender_spec.proofs.Shapes as shapes
 use Rattle.sender_spec.proofs.Shapes.{Offer, Clock, offer-shape, clock-shape}
 
-receiver-opening : (t140 red n : ℕ) → receiver.openingOf t140 red .number ≡ suc n → receiver.openingOf t140 red .receiver ≡ zeroReceiver
-receiver-opening t140 red n = go (typesBad t140 red)
-  where
-    go : (b : Bool)
-        → cond {A = Opening} b (openingRefused 3) (record { number = 0; receiver = freshReceiver t140 red }) .number ≡ suc n
-        → cond {A = Opening} b (openingRefused 3) (record { number = 0; receiver = freshReceiver t140 red }) .receiver ≡ zeroReceiver
-    go true e = refl
-    go false e = absurd (omega arith)
+module _ (t140 red : ℕ) where
+  -- both cases of a receiver's opening
+  abbrev by : Bool → Opening
+  by b = cond b (openingRefused 3) (record { number = 0; receiver = freshReceiver t140 red })
 
-sender-opening : (x : Settings) (n : ℕ) → sender.openingOf x .number ≡ suc n → sender.openingOf x .sender ≡ zeroSender
+  receiver-number : receiver.openingOf t140 red .number ≡ numberBy (receiver.openingChecks t140 red)
+  receiver-number = checked-of (λ (o : Opening). o .number) openingRefused (receiver.openingChecks t140 red) _
+
+  pub receiver-opened : receiver.openingOf t140 red .number ≡ 0 → receiver.openingOf t140 red .receiver ≡ freshReceiver t140 red
+  receiver-opened = go (typesBad t140 red)
+    where
+      go : (b : Bool) → by b .number ≡ 0 → by b .receiver ≡ freshReceiver t140 red
+      go true e = absurd (omega arith)
+      go false e = refl
+
+  receiver-refused : (n : ℕ) → receiver.openingOf t140 red .number ≡ suc n → receiver.openingOf t140 red .receiver ≡ zeroReceiver
+  receiver-refused n = go (typesBad t140 red)
+    where
+      go : (b : Bool) → by b .number ≡ suc n → by b .receiver ≡ zeroReceiver
+      go true e = refl
+      go false e = absurd (omega arith)
+
+sender-number : (x : Settings) → sender.openingOf x .number ≡ numberBy (settingsChecks x)
+unfolding sender.openingOf settingsNumber
+sender-number x = go (settingsNumber x) (eqb (settingsNumber x) 0) refl
+  where
+    go : (n : ℕ) (b : Bool) → eqb n 0 ≡ b → cond {A = Numbered} (not b) (sender.openingRefused n) (record { number = 0; sender = fresh x }) .number ≡ n
+    go n true q = sym (eqb-true n 0 q)
+    go n false q = refl
+
+sender-refused : (x : Settings) (n : ℕ) → sender.openingOf x .number ≡ suc n → sender.openingOf x .sender ≡ zeroSender
 unfolding sender.openingOf
-sender-opening x n = go (eqb (settingsNumber x) 0)
+sender-refused x n = go (eqb (settingsNumber x) 0)
   where
     go : (b : Bool)
         → cond {A = Numbered} (not b) (sender.openingRefused (settingsNumber x)) (record { number = 0; sender = fresh x }) .number ≡ suc n
@@ -63,7 +86,7 @@ step-refused : (r : Receiver) (p : List ℕ) (n : ℕ) → stepOf r p .answer �
 unfolding stepOf
 step-refused r p n e = ap (λ (x : Read). stepRead r p x .receiver) (step-is r p n (reading level (sourceExpected r) (r .t140) (r .red) p) e)
 
-offer-number : (s : Sender) (t : ℕ) (x : List ℕ) → offerOf s t x .number ≡ checked (λ n. n) (offerChecks s t x) 0
+offer-number : (s : Sender) (t : ℕ) (x : List ℕ) → offerOf s t x .number ≡ numberBy (offerChecks s t x)
 unfolding offerOf
 offer-number s t x = checked-of (λ (r : Numbered). r .number) (offerRefused s) (offerChecks s t x) (record { number = 0; sender = senderWith s t x })
 
@@ -71,10 +94,10 @@ offer-refused : (s : Sender) (t : ℕ) (x : List ℕ) (n : ℕ) → offerOf s t 
 offer-refused s t x n = go (offerOf s t x) (offer-shape s t x)
   where
     go : (r : Numbered) → Offer s t x r → r .number ≡ suc n → r .sender ≡ s
-    go r (shapes.refused k) e = refl
+    go r (shapes.refused k h) e = refl
     go r (shapes.joined a b c d) e = absurd (omega arith)
 
-clock-number : (s : Sender) (t : ℕ) (p : List ℕ) (n : ℕ) → checked (λ k. k) (clockChecks s t) 0 ≡ suc n → clockOf s t p .answer ≡ answers.refused (suc n)
+clock-number : (s : Sender) (t : ℕ) (p : List ℕ) (n : ℕ) → numberBy (clockChecks s t) ≡ suc n → clockOf s t p .answer ≡ answers.refused (suc n)
 unfolding clockOf
 clock-number s t p n e = ap (λ (r : ClockResult). r .answer) (refused-by (clockRefused s p) (clockChecks s t) _ (suc n) (omega arith) e)
 
@@ -86,19 +109,24 @@ clock-refused s t p n = go (clockOf s t p) (clock-shape s t p)
     go r (shapes.quiet a b) e = absurd (let z : _≡_ {A = ℕ} 0 1 = cc in omega arith)
     go r (shapes.sent a b c d) e = absurd (let z : _≡_ {A = ℕ} 0 1 = cc in omega arith)
 
-clock-quiet : (s : Sender) (t : ℕ) (p : List ℕ) → clockOf s t p .answer ≡ answers.quiet → (clockOf s t p .sender ≡ senderAt s t) × (clockOf s t p .lent ≡ p)
+clock-quiet : (s : Sender) (t : ℕ) (p : List ℕ) → clockOf s t p .answer ≡ answers.quiet → OnlyClock s t (clockOf s t p .sender) × (clockOf s t p .lent ≡ p)
 clock-quiet s t p = go (clockOf s t p) (clock-shape s t p)
   where
-    go : (r : ClockResult) → Clock s t p r → r .answer ≡ answers.quiet → (r .sender ≡ senderAt s t) × (r .lent ≡ p)
+    go : (r : ClockResult) → Clock s t p r → r .answer ≡ answers.quiet → OnlyClock s t (r .sender) × (r .lent ≡ p)
     go r (shapes.refused k) e = absurd (let z : _≡_ {A = ℕ} 0 1 = cc in omega arith)
-    go r (shapes.quiet a b) e = (refl, refl)
+    go r (shapes.quiet a b) e = (record { clock = refl; settings = refl; waiting = refl; since = refl; kept = refl; progress = refl }, refl)
     go r (shapes.sent a b c d) e = absurd (let z : _≡_ {A = ℕ} 0 1 = cc in omega arith)
 
-pub demand-1 : Demand1
+pub demand-1 : Demand1 ours
 unfolding stepOf reading offerOf clockOf settingsNumber
 demand-1 = record {
-  receiver-opening = receiver-opening;
-  sender-opening = sender-opening;
+  receiver-number = receiver-number;
+  receiver-opened = receiver-opened;
+  receiver-refused = receiver-refused;
+  sender-number = sender-number;
+  sender-opened = λ x o. open-passed x o .1;
+  sender-refused = sender-refused;
+  read-number = λ e t140 red p n. (λ h. h, λ h. h);
   step-number = λ r p n. (step-is r p n (reading level (sourceExpected r) (r .t140) (r .red) p), λ e. ap (λ (x : Read). stepRead r p x .answer) e);
   step-refused = step-refused;
   offer-number = offer-number;

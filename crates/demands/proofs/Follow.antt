@@ -19,6 +19,7 @@ use Rattle.sender_spec.specs.Packets.{due, packetBytes, recentRun, carried, tak
 use Rattle.sender_spec.specs.Settings.{settingsNumber}
 use Rattle.sender_spec.specs.Clocking.{clockOf}
 use Rattle.demands.specs.AnySender.{IsPacket}
+use Rattle.demands.specs.Line.{ours}
 use Rattle.demands.specs.Sending.{Call, offer, clock, Written, writtenBy, writes, after, written, finally}
 use Rattle.delivery.proofs.Runs.{run-within}
 use Rattle.sender_spec.proofs.Shapes as shapes
@@ -36,11 +37,11 @@ pub data Move (s : Sender) : Sender → List Written → Type 0 where
   sends : (t : ℕ) (p : List ℕ) → s .clock ≤ t → settingsNumber (s .settings) ≡ 0 → due s t ≡ true → take (length (packetBytes s t)) p ≡ packetBytes s t
       → Move s (afterPacket s t) (record { packet = take (length (packetBytes s t)) p; time = t; content = contentOf s t } ∷ [])
 
-pub move : (s : Sender) (c : Call) → Move s (after s c) (writes s c)
+pub move : (s : Sender) (c : Call) → Move s (after ours s c) (writes ours s c)
 move s (offer t x) = go (offerOf s t x) (offer-shape s t x)
   where
     go : (r : Numbered) → Offer s t x r → Move s (r .sender) []
-    go r (shapes.refused n) = still
+    go r (shapes.refused n h) = still
     go r (shapes.joined a b c d) = moved (senderWith s t x) b refl refl refl
 move s (clock t p) = go (clockOf s t p) (clock-shape s t p)
   where
@@ -51,29 +52,29 @@ move s (clock t p) = go (clockOf s t p) (clock-shape s t p)
 
 -- the log from a sender on: the blocks of the packets written, then d
 abbrev pub logFrom : Sender → List Call → Block → ℕ → Block
-logFrom s cs d k = getD (map blockOf (written s cs)) k d
+logFrom s cs d k = getD (map blockOf (written ours s cs)) k d
 
 -- no time is below the clock before the calls, and times never fall
-low : (cs : List Call) (s : Sender) (d : Block) → finally s cs .clock ≤ d .at → (k : ℕ) → s .clock ≤ logFrom s cs d k .at
+low : (cs : List Call) (s : Sender) (d : Block) → finally ours s cs .clock ≤ d .at → (k : ℕ) → s .clock ≤ logFrom s cs d k .at
 low [] s d h k = h
-low (c ∷ cs) s d h k = go (after s c) (writes s c) (move s c) h (low cs (after s c) d) k
+low (c ∷ cs) s d h k = go (after ours s c) (writes ours s c) (move s c) h (low cs (after ours s c) d) k
   where
-    go : (s₁ : Sender) (ws : List Written) → Move s s₁ ws → finally s₁ cs .clock ≤ d .at
-        → (finally s₁ cs .clock ≤ d .at → (k : ℕ) → s₁ .clock ≤ logFrom s₁ cs d k .at)
-        → (k : ℕ) → s .clock ≤ getD (map blockOf (ws ++ written s₁ cs)) k d .at
+    go : (s₁ : Sender) (ws : List Written) → Move s s₁ ws → finally ours s₁ cs .clock ≤ d .at
+        → (finally ours s₁ cs .clock ≤ d .at → (k : ℕ) → s₁ .clock ≤ logFrom s₁ cs d k .at)
+        → (k : ℕ) → s .clock ≤ getD (map blockOf (ws ++ written ours s₁ cs)) k d .at
     go s₁ ws still h f k = f h k
     go s₁ ws (moved s₂ l a b e) h f k = le-trans l (f h k)
     go s₁ ws (sends t p l x y z) h f zero = l
     go s₁ ws (sends t p l x y z) h f (suc k) = le-trans l (f h k)
 
-pub rises : (cs : List Call) (s : Sender) (d : Block) → finally s cs .clock ≤ d .at → (k : ℕ) → logFrom s cs d k .at ≤ logFrom s cs d (suc k) .at
+pub rises : (cs : List Call) (s : Sender) (d : Block) → finally ours s cs .clock ≤ d .at → (k : ℕ) → logFrom s cs d k .at ≤ logFrom s cs d (suc k) .at
 rises [] s d h k = le-refl (d .at)
-rises (c ∷ cs) s d h k = go (after s c) (writes s c) (move s c) h (low cs (after s c) d) (rises cs (after s c) d) k
+rises (c ∷ cs) s d h k = go (after ours s c) (writes ours s c) (move s c) h (low cs (after ours s c) d) (rises cs (after ours s c) d) k
   where
-    go : (s₁ : Sender) (ws : List Written) → Move s s₁ ws → finally s₁ cs .clock ≤ d .at
-        → (finally s₁ cs .clock ≤ d .at → (k : ℕ) → s₁ .clock ≤ logFrom s₁ cs d k .at)
-        → (finally s₁ cs .clock ≤ d .at → (k : ℕ) → logFrom s₁ cs d k .at ≤ logFrom s₁ cs d (suc k) .at)
-        → (k : ℕ) → getD (map blockOf (ws ++ written s₁ cs)) k d .at ≤ getD (map blockOf (ws ++ written s₁ cs)) (suc k) d .at
+    go : (s₁ : Sender) (ws : List Written) → Move s s₁ ws → finally ours s₁ cs .clock ≤ d .at
+        → (finally ours s₁ cs .clock ≤ d .at → (k : ℕ) → s₁ .clock ≤ logFrom s₁ cs d k .at)
+        → (finally ours s₁ cs .clock ≤ d .at → (k : ℕ) → logFrom s₁ cs d k .at ≤ logFrom s₁ cs d (suc k) .at)
+        → (k : ℕ) → getD (map blockOf (ws ++ written ours s₁ cs)) k d .at ≤ getD (map blockOf (ws ++ written ours s₁ cs)) (suc k) d .at
     go s₁ ws still h lo f k = f h k
     go s₁ ws (moved s₂ l a b e) h lo f k = f h k
     go s₁ ws (sends t p l x y z) h lo f zero = lo h 0
@@ -134,14 +135,14 @@ module _ (R : ℕ) (small : R ≤ level) (first : ℕ) (f : ℕ → Block) (f-ri
   Packets n [] = Unit {0}
   Packets n (w ∷ ws) = IsPacket rules n (w .content) × Packets (suc n) ws
 
-  pub follow : (cs : List Call) (s : Sender) (n : ℕ) (d : Block) → At s n → ((i : ℕ) → f (n + i) ≡ logFrom s cs d i) → Packets n (written s cs)
+  pub follow : (cs : List Call) (s : Sender) (n : ℕ) (d : Block) → At s n → ((i : ℕ) → f (n + i) ≡ logFrom s cs d i) → Packets n (written ours s cs)
   follow [] s n d a g = tt
-  follow (c ∷ cs) s n d a g = go (after s c) (writes s c) (move s c) (λ s₁ n₁. follow cs s₁ n₁ d) g
+  follow (c ∷ cs) s n d a g = go (after ours s c) (writes ours s c) (move s c) (λ s₁ n₁. follow cs s₁ n₁ d) g
     where
       go : (s₁ : Sender) (ws : List Written) → Move s s₁ ws
-          → ((s₂ : Sender) (n₂ : ℕ) → At s₂ n₂ → ((i : ℕ) → f (n₂ + i) ≡ logFrom s₂ cs d i) → Packets n₂ (written s₂ cs))
-          → ((i : ℕ) → f (n + i) ≡ getD (map blockOf (ws ++ written s₁ cs)) i d)
-          → Packets n (ws ++ written s₁ cs)
+          → ((s₂ : Sender) (n₂ : ℕ) → At s₂ n₂ → ((i : ℕ) → f (n₂ + i) ≡ logFrom s₂ cs d i) → Packets n₂ (written ours s₂ cs))
+          → ((i : ℕ) → f (n + i) ≡ getD (map blockOf (ws ++ written ours s₁ cs)) i d)
+          → Packets n (ws ++ written ours s₁ cs)
       go s₁ ws still ih g = ih s n a g
       go s₁ ws (moved s₂ l x y z) ih g =
           ih s₂ n (record {

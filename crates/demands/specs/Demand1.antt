@@ -6,7 +6,7 @@ use mathlib.Core.List.{List}
 use mathlib.Core.Logic.{_↔_}
 use mathlib.Core.Bool.{true, false}
 use lib.ListN.{length}
-use Rattle.base.specs.Checks.{Check, checked}
+use Rattle.base.specs.Checks.{numberBy}
 use Rattle.packet_spec.specs.Limits.{level}
 use Rattle.packet_spec.specs.Header.{Expected}
 use Rattle.packet_spec.specs.Reading.{refused, reading}
@@ -19,10 +19,6 @@ use Rattle.sender_spec.specs.Offering.{offerChecks}
 use Rattle.sender_spec.specs.Packets.{due, packetBytes}
 use Rattle.sender_spec.specs.Clocking.{clockChecks}
 use Rattle.demands.specs.Line.{Line}
-
--- the number of the first check that applies; 0, which is no refusal's, where none does
-abbrev pub numberBy : List Check → ℕ
-numberBy checks = checked (λ n. n) checks 0
 
 -- "only keeps t": every other field of a sender is as it was
 pub record OnlyClock (s : Sender) (t : ℕ) (s' : Sender) : Type 0 where

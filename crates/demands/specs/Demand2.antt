@@ -1,11 +1,12 @@
 -- Demand 2: reading means what 01 and the RFCs say, writing likewise, and what is written is read back.
-use Prim.Native.Nat.{ℕ, suc, _≤_}
+use Prim.Native.Nat.{ℕ, _≤_}
 use mathlib.Core.Path.{_≡_}
 use mathlib.Core.List.{List, [], _∷_, _++_, map}
 use mathlib.Core.Logic.{_↔_}
 use mathlib.Core.Bool.{true}
 use lib.ListN.{length, getD}
 use Rattle.base.specs.Arrays.{over}
+use Rattle.base.specs.Checks.{numberBy}
 use Rattle.text_spec.specs.Utf8.{Characters}
 use Rattle.text_spec.specs.WellFormed.{Letters}
 use Rattle.packet_spec.specs.Limits.{level}
@@ -18,11 +19,11 @@ use Rattle.receiver_spec.specs.Step.{sourceExpected}
 use Rattle.receiver_spec.specs.Record.{isAccepted}
 use Rattle.sender_spec.specs.State.{Settings, Sender}
 use Rattle.sender_spec.specs.Answers as answers
-use Rattle.sender_spec.specs.Packets.{due, packetBytes}
+use Rattle.sender_spec.specs.Offering.{senderWith}
+use Rattle.sender_spec.specs.Packets.{due, packetBytes, afterPacket}
 use Rattle.sender_spec.specs.Clocking.{clockChecks}
 use Rattle.demands.specs.Line.{Line}
 use Rattle.demands.specs.Sending.{Call, Written, written, typed, finally}
-use Rattle.demands.specs.Demand1.{numberBy}
 
 -- a packet is read, by every reader with the sender's payload types that expects its source, as what it was written as: marker,
 -- sequence, timestamp, source, older blocks with their offsets, primary; and a receiver with these types that has no source yet,
@@ -41,9 +42,11 @@ pub record Demand2 (l : Line) : Type 0 where
   -- what a packet holds is 01's, and the bytes handed out as a block are that block's
   pub reads : (e : Expected) (t140 red : ℕ) (p : List ℕ) → l .read e t140 red p ≡ reading level e t140 red p
   pub hands-out : (e : Expected) (t140 red : ℕ) (p : List ℕ) (c : Content) (k : ℕ) → l .read e t140 red p ≡ holds c → l .block p c k ≡ getD (blocks c) k []
-  -- a clock call that meets no check writes the packet where one is due and the space holds it
+  -- the text of an accepted offer joins the waiting room
+  pub joins : (s : Sender) (t : ℕ) (x : List ℕ) → l .offer s t x .number ≡ 0 → l .offer s t x .sender ≡ senderWith s t x
+  -- a clock call that meets no check writes the packet where one is due and the space holds it, and the sender moves on
   pub writes-when-due : (s : Sender) (t : ℕ) (p : List ℕ) → numberBy (clockChecks s t) ≡ 0 → due s t ≡ true → length (packetBytes s t) ≤ length p
-      → (l .clock s t p .answer ≡ answers.sent (length (packetBytes s t))) × (l .clock s t p .lent ≡ over (packetBytes s t) p)
+      → (l .clock s t p .answer ≡ answers.sent (length (packetBytes s t))) × (l .clock s t p .lent ≡ over (packetBytes s t) p) × (l .clock s t p .sender ≡ afterPacket s t)
   -- over every list of calls from an accepted opening: what was written is read back,
   pub read-back : (x : Settings) (calls : List Call) → l .openSender x .number ≡ 0 → AllReadBack l x (written l (l .openSender x .sender) calls)
   -- and the primaries, joined, and then what waits are the texts of the accepted offers: nothing is lost, doubled or moved

@@ -1,5 +1,5 @@
-pub mod AnySender
+pub mod Line
 pub mod Sending
 pub mod Demand1
 pub mod Demand2
-pub mod Demand3
+pub mod AnySender

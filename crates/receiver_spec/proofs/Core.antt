@@ -106,7 +106,7 @@ keeps-types r p (holds c) = by (r .hasSource) (courseOf (distance (c .sequence) 
     by true late = (refl, refl)
     by false v = (refl, refl)
 
-accepts : (r : Receiver) (p : List ℕ) (c : Content) → isAccepted (stepRead r p (holds c) .answer) ≡ true
+pub accepts : (r : Receiver) (p : List ℕ) (c : Content) → isAccepted (stepRead r p (holds c) .answer) ≡ true
 accepts r p c = by (r .hasSource) (courseOf (distance (c .sequence) (r .expected)))
   where
     by : (h : Bool) (v : Course) → isAccepted (cond h (stepBy v r p c (distance (c .sequence) (r .expected))) (firstStep r p c) .answer) ≡ true

@@ -42,7 +42,7 @@ pub offer-good : (s : Sender) (t : ℕ) (x : List ℕ) → Good s → Good (offe
 offer-good s t x g = go (offerOf s t x) (offer-shape s t x)
   where
     go : (r : Numbered) → Offer s t x r → Good (r .sender)
-    go r (Shapes.refused n) = g
+    go r (Shapes.refused n h) = g
     go r (joined ok later text room) = record { waiting = joined-sendable (s .waiting) x (g .waiting) text room; kept = g .kept }
 
 -- the primary of a packet, and what waits behind it

@@ -9,7 +9,7 @@ use lib.Dec.{eqb}
 use lib.ListN.{length, take}
 use borrow.Author.Tests.{eqb-true}
 use Rattle.packet_spec.specs.Limits.{level}
-use Rattle.packet_spec.specs.Header.{Expected, Any, Only, typesBad}
+use Rattle.packet_spec.specs.Header.{Expected, typesBad}
 use Rattle.packet_spec.specs.Redundancy.{Block, blocksOf, allText}
 use Rattle.packet_spec.specs.Reading.{holds, reading}
 use Rattle.packet_spec.specs.Encoding.{plainBytes, redundantBytes, Admits}
@@ -58,11 +58,5 @@ module _ (s : Sender) (t : ℕ) (ok : settingsNumber (s .settings) ≡ 0) (g : G
         redundant-back level expected (s .settings .t140) (s .settings .red) (contentOf s t) types admits text few (lengths-fit older short)
         (packet-fits level (omega arith) (s .settings .t140) (s .settings .red) (contentOf s t) few short (taken-good s t g .1))
 
-    pub reads-back-by : reading level expected (s .settings .t140) (s .settings .red) (packetBytes s t) ≡ holds (contentOf s t)
-    reads-back-by = by-test ReadBack (eqb (s .settings .level) 0) plain (λ e. redundant)
-
-  pub reads-back : reading level Any (s .settings .t140) (s .settings .red) (packetBytes s t) ≡ holds (contentOf s t)
-  reads-back = reads-back-by Any tt
-
-  pub reads-back-from : reading level (Only (s .settings .source)) (s .settings .t140) (s .settings .red) (packetBytes s t) ≡ holds (contentOf s t)
-  reads-back-from = reads-back-by (Only (s .settings .source)) refl
+    pub reads-back : reading level expected (s .settings .t140) (s .settings .red) (packetBytes s t) ≡ holds (contentOf s t)
+    reads-back = by-test ReadBack (eqb (s .settings .level) 0) plain (λ e. redundant)

@@ -5,7 +5,8 @@ use mathlib.Core.List.{List}
 use mathlib.Core.Bool.{Bool, true, false, cond, not}
 use lib.Dec.{ltb, eqb}
 use lib.ListN.{length}
-use borrow.Author.Tests.{ltb-false, eqb-true}
+use native.Mathlib.Omega.{arith}
+use borrow.Author.Tests.{ltb-false, eqb-true, eqb-false}
 use Rattle.text_spec.specs.Utf8.{isText}
 use Rattle.sender_spec.specs.Limits.{roomSize}
 use Rattle.sender_spec.specs.Settings.{settingsNumber}
@@ -17,7 +18,7 @@ use Rattle.sender_spec.specs.Packets.{due, packetBytes, afterPacket}
 use Rattle.sender_spec.specs.Clocking.{senderAt, clockRefused, clockQuiet, clockSent, clockOf}
 
 pub data Offer (s : Sender) (t : ℕ) (x : List ℕ) : Numbered → Type 0 where
-  refused : (n : ℕ) → Offer s t x (offerRefused s n)
+  refused : (n : ℕ) → 1 ≤ n → Offer s t x (offerRefused s n)
   joined : settingsNumber (s .settings) ≡ 0 → s .clock ≤ t → isText x ≡ true → length (s .waiting) + length x ≤ roomSize
       → Offer s t x (record { number = 0; sender = senderWith s t x })
 
@@ -36,11 +37,11 @@ offer-shape s t x =
         → Offer s t x
         (cond (not a) (offerRefused s (settingsNumber (s .settings)))
         (cond b (offerRefused s 5) (cond c (offerRefused s 7) (cond (not d) (offerRefused s 6) (cond e (offerRefused s 4) (record { number = 0; sender = senderWith s t x }))))))
-    go false p b q c d r e u = refused (settingsNumber (s .settings))
-    go true p true q c d r e u = refused 5
-    go true p false q true d r e u = refused 7
-    go true p false q false false r e u = refused 6
-    go true p false q false true r true u = refused 4
+    go false p b q c d r e u = refused (settingsNumber (s .settings)) (let h : settingsNumber (s .settings) ≡ 0 → ⊥ = eqb-false (settingsNumber (s .settings)) 0 p in omega arith)
+    go true p true q c d r e u = refused 5 (omega arith)
+    go true p false q true d r e u = refused 7 (omega arith)
+    go true p false q false false r e u = refused 6 (omega arith)
+    go true p false q false true r true u = refused 4 (omega arith)
     go true p false q false true r false u =
         joined (eqb-true (settingsNumber (s .settings)) 0 p) (ltb-false t (s .clock) q) r (ltb-false roomSize (length (s .waiting) + length x) u)
 
