@@ -12,17 +12,17 @@ use Rattle.packet_spec.specs.Header.{Expected}
 use Rattle.packet_spec.specs.Redundancy.{Head}
 use Rattle.packet_spec.specs.Header.{payloadType, payload}
 use Rattle.packet_spec.specs.Redundancy.{Heads, heads, bad, headOf, header, headers, total, areText}
-use Rattle.base.specs.Checks.{Check}
-use Rattle.packet_spec.specs.Reading.{Content, Read, holds, refused, inOrder, headerChecks, headsOf, content, blockChecks, blocksRead, reading}
+use Rattle.base.specs.Checks.{Check, checked}
+use Rattle.packet_spec.specs.Reading.{Content, Read, holds, refused, headerChecks, headsOf, content, blockChecks, blocksRead, reading}
 use Rattle.base.proofs.Tests.{by-test}
 use Rattle.base.proofs.InOrder.{NoneApplies}
 
-pub none-applies : (ks : List Check) (x : Read) (c : Content) → inOrder ks x ≡ holds c → NoneApplies ks × (x ≡ holds c)
+pub none-applies : (ks : List Check) (x : Read) (c : Content) → checked refused ks x ≡ holds c → NoneApplies ks × (x ≡ holds c)
 none-applies [] x c e = (tt, e)
 none-applies (k ∷ ks) x c e = go (k .applies) refl e (none-applies ks x c)
   where
-    go : (b : Bool) → k .applies ≡ b → cond b (refused (k .number)) (inOrder ks x) ≡ holds c
-        → (inOrder ks x ≡ holds c → NoneApplies ks × (x ≡ holds c)) → NoneApplies (k ∷ ks) × (x ≡ holds c)
+    go : (b : Bool) → k .applies ≡ b → cond b (refused (k .number)) (checked refused ks x) ≡ holds c
+        → (checked refused ks x ≡ holds c → NoneApplies ks × (x ≡ holds c)) → NoneApplies (k ∷ ks) × (x ≡ holds c)
     go true q f r = absurd (let z : _≡_ {A = ℕ} 0 1 = cc in omega arith)
     go false q f r = ((q, r f .0), r f .1)
 

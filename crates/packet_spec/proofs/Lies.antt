@@ -10,11 +10,11 @@ use lib.ListN.{length, take, drop, getD, length-drop, length-append, List·getD-
 use lib.Seq.{slice, length-slice, slice-empty, drop-cons, take-append-seam}
 use borrow.Author.Tests.{ltb-true, ltb-false, eqb-true, not-false}
 use Rattle.base.specs.Arrays.{part}
-use Rattle.base.specs.Checks.{Check}
+use Rattle.base.specs.Checks.{Check, checked}
 use Rattle.packet_spec.specs.Limits.{longest}
 use Rattle.packet_spec.specs.Header.{Any, Only, Expected, headerEnd, payloadEnd, payload, sourceOf}
 use Rattle.packet_spec.specs.Redundancy.{Head, Block, olderOf, primaryOf, blocksOf, joined, allText}
-use Rattle.packet_spec.specs.Reading.{Content, Read, holds, inOrder, headerChecks, headsOf, content, blocksRead, reading, blocks, startsAt, blockAt}
+use Rattle.packet_spec.specs.Reading.{Content, Read, holds, refused, headerChecks, headsOf, content, blocksRead, reading, blocks, startsAt, blockAt}
 use Rattle.base.proofs.PartOf.{part-slice}
 use Rattle.base.proofs.Slices.{take-slice, drop-slice, slice-end}
 use Rattle.packet_spec.proofs.Payload.{payload-inside}
@@ -122,7 +122,7 @@ module _ (n : ℕ) (expected : Expected) (t140 red : ℕ) (p : List ℕ) (c : Co
   long = ltb-false longest (length p) (is-accepted .checks .1 .1 .0)
 
 -- a packet accepted with one expected source is accepted with any, and has that source
-all-pass : (ks : List Check) (x : Read) → NoneApplies ks → inOrder ks x ≡ x
+all-pass : (ks : List Check) (x : Read) → NoneApplies ks → checked refused ks x ≡ x
 all-pass [] x a = refl
 all-pass (k ∷ ks) x a = rw (a .0) (all-pass ks x (a .1))
 

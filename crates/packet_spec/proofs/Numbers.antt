@@ -6,10 +6,10 @@ use native.Mathlib.Omega.{arith}
 use lib.Dec.{ltb, eqb}
 use lib.ListN.{length, getD, drop}
 use borrow.Author.Needs.{needs}
-use Rattle.base.specs.Checks.{Check}
+use Rattle.base.specs.Checks.{Check, checked}
 use Rattle.packet_spec.specs.Header.{Expected, payloadType, payload}
 use Rattle.packet_spec.specs.Redundancy.{Head, Heads, heads, bad, headOf, header, headers}
-use Rattle.packet_spec.specs.Reading.{Read, holds, refused, inOrder, headerChecks, headsOf, content, blockChecks, blocksRead, reading}
+use Rattle.packet_spec.specs.Reading.{Read, holds, refused, headerChecks, headsOf, content, blockChecks, blocksRead, reading}
 use Rattle.base.proofs.InOrder as checks
 use Rattle.base.proofs.Tests.{by-test}
 
@@ -21,7 +21,7 @@ abbrev pub HeadsPositive : Heads → Type 0
 HeadsPositive (heads hs s) = Unit {0}
 HeadsPositive (bad n) = 1 ≤ n
 
-in-order : (ks : List Check) (x : Read) → checks.Positive ks → Positive x → Positive (inOrder ks x)
+in-order : (ks : List Check) (x : Read) → checks.Positive ks → Positive x → Positive (checked refused ks x)
 in-order [] x a p = p
 in-order (k ∷ ks) x a p = by-test Positive (k .applies) {x = refused (k .number)} (λ _. a .0) (λ _. in-order ks x (a .1) p)
 

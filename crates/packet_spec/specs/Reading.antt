@@ -22,9 +22,6 @@ pub data Read : Type 0 where
   holds : Content → Read
   refused : ℕ → Read
 
-abbrev pub inOrder : List Check → Read → Read
-inOrder cs passed = checked refused cs passed
-
 abbrev pub headerChecks : Expected → ℕ → ℕ → List ℕ → List Check
 headerChecks expected t140 red p =
     typesBad t140 red gives 3
@@ -66,11 +63,11 @@ blockChecks hs s =
 
 abbrev pub blocksRead : List ℕ → Heads → Read
 blocksRead p (bad n) = refused n
-blocksRead p (heads hs s) = inOrder (blockChecks hs s) (holds (content p hs s))
+blocksRead p (heads hs s) = checked refused (blockChecks hs s) (holds (content p hs s))
 
 -- with so many older blocks at most
 unfoldable pub reading : ℕ → Expected → ℕ → ℕ → List ℕ → Read
-reading level expected t140 red p = inOrder (headerChecks expected t140 red p) (blocksRead p (headsOf level t140 p))
+reading level expected t140 red p = checked refused (headerChecks expected t140 red p) (blocksRead p (headsOf level t140 p))
 
 -- the bytes of a packet's blocks, oldest first and the primary last
 abbrev pub blocks : Content → List (List ℕ)

@@ -9,10 +9,9 @@ use lib.Seq.{drop-append-le}
 use Rattle.packet_spec.specs.Header.{Any, Only}
 use Rattle.receiver_spec.specs.Opening.{Receiver}
 use Rattle.packet_spec.specs.Limits.{level}
-use Rattle.packet_spec.specs.Reading.{Content, holds, reading, blocks}
+use Rattle.packet_spec.specs.Reading.{Content, holds, reading}
 use Rattle.delivery.specs.Record.{lastOf}
-use Rattle.receiver_spec.specs.Step.{sourceExpected}
-use Rattle.receiver_spec.specs.Record.{blocksRead, blocksIn}
+use Rattle.receiver_spec.specs.Step.{readBy}
 use Rattle.packet_spec.proofs.Lies.{of-one-source}
 
 -- the last blocks and the primary
@@ -23,14 +22,10 @@ last-snoc w xs y h =
     ap (λ (k : ℕ). drop k (xs ++ (y ∷ []))) e ∙ drop-append-le (length xs - w) xs (y ∷ []) (omega arith)
 
 -- a packet that the step accepts is accepted by the reader with any source, with the same content
-pub read-by-any : (r : Receiver) (p : List ℕ) (c : Content) → reading level (sourceExpected r) (r .t140) (r .red) p ≡ holds c
+pub read-by-any : (r : Receiver) (p : List ℕ) (c : Content) → readBy r p ≡ holds c
     → reading level Any (r .t140) (r .red) p ≡ holds c
 read-by-any r p c = go (r .hasSource)
   where
     go : (h : Bool) → reading level (cond h (Only (r .source)) Any) (r .t140) (r .red) p ≡ holds c → reading level Any (r .t140) (r .red) p ≡ holds c
     go true e = of-one-source level (r .source) (r .t140) (r .red) p c e .0
     go false e = e
-
-module _ (r : Receiver) (p : List ℕ) (c : Content) (e : reading level (sourceExpected r) (r .t140) (r .red) p ≡ holds c) where
-  pub blocks-in : blocksIn r p ≡ blocks c
-  blocks-in = ap blocksRead (read-by-any r p c e)

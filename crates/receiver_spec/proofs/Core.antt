@@ -14,9 +14,9 @@ use Rattle.delivery.specs.Numbers.{Course, forward, late, courseOf, distance}
 use Rattle.delivery.specs.Record as core
 use Rattle.delivery.specs.Record.{Entry, entries, lastOf, loss, wanted}
 use Rattle.delivery.specs.Sending.{Sender, sent}
-use Rattle.receiver_spec.specs.Step.{sourceExpected, stepRead, firstStep, stepBy, stepOf}
-use Rattle.receiver_spec.specs.Record.{blocksGiven, entriesOf, recordOf, isAccepted, acceptedOf}
-use Rattle.receiver_spec.proofs.Blocks.{last-snoc, read-by-any, blocks-in}
+use Rattle.receiver_spec.specs.Step.{readBy, stepRead, firstStep, stepBy, stepOf}
+use Rattle.receiver_spec.specs.Record.{blocksIn, blocksGiven, entriesOf, recordOf, isAccepted, acceptedOf}
+use Rattle.receiver_spec.proofs.Blocks.{last-snoc, read-by-any}
 
 -- a packet as the core has it
 abbrev pub packetOf : Content → core.Packet
@@ -25,9 +25,6 @@ packetOf c = record { sequence = c .sequence; older = map (λ b. b .bytes) (c .o
 abbrev packetsRead : Read → List core.Packet
 packetsRead (refused n) = []
 packetsRead (holds c) = packetOf c ∷ []
-
-abbrev readBy : Receiver → List ℕ → Read
-readBy r p = reading level (sourceExpected r) (r .t140) (r .red) p
 
 -- the packets that the step accepts, as they are read
 abbrev packets : Receiver → List (List ℕ) → List core.Packet
@@ -48,12 +45,12 @@ module _ (r : Receiver) (p : List ℕ) (c : Content) (e : readBy r p ≡ holds c
   adds-is : (h : Bool) (v : Course) (d : ℕ)
       → entriesOf r p (cond h (stepBy v r p c d) (firstStep r p c) .answer) ≡ cond h (core.addsAt v d (packetOf c)) (core.adds core.fresh (packetOf c))
   adds-is true forward d =
-      ap (λ (l : List (List ℕ)). entries (loss d (length (c .older))) (lastOf (suc (wanted d (length (c .older)))) l)) (blocks-in r p c e)
+      ap (λ (x : Read). entries (loss d (length (c .older))) (lastOf (suc (wanted d (length (c .older)))) (blocksIn x))) e
       ∙ ap (entries (loss d (length (c .older)))) (given-is (wanted d (length (c .older))) (omega arith))
       ∙ ap (λ (k : ℕ). entries (loss d k) (core.blocksGiven (wanted d k) (packetOf c))) (sym same-length)
   adds-is true late d = refl
   adds-is false v d =
-      ap (λ (l : List (List ℕ)). entries 0 (lastOf (suc (length (c .older))) l)) (blocks-in r p c e)
+      ap (λ (x : Read). entries 0 (lastOf (suc (length (c .older))) (blocksIn x))) e
       ∙ ap (entries 0) (given-is (length (c .older)) (omega arith))
       ∙ ap (λ (k : ℕ). entries 0 (core.blocksGiven k (packetOf c))) (sym same-length)
 

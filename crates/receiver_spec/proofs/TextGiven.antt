@@ -10,17 +10,16 @@ use Rattle.receiver_spec.specs.Opening.{Receiver}
 use Rattle.packet_spec.specs.Limits.{level}
 use Rattle.packet_spec.specs.Header.{payloadEnd}
 use Rattle.packet_spec.specs.Redundancy.{joined}
-use Rattle.packet_spec.specs.Reading.{Content, Read, holds, refused, reading, blocks}
+use Rattle.packet_spec.specs.Reading.{Content, Read, holds, refused, blocks}
 use Rattle.delivery.specs.Numbers.{Course, forward, late, courseOf, distance}
 use Rattle.delivery.specs.Record.{lastOf, loss, wanted}
-use Rattle.receiver_spec.specs.Step.{gives, givenFrom, sourceExpected, stepRead, firstStep, stepBy, stepOf, textGiven}
+use Rattle.receiver_spec.specs.Step.{gives, givenFrom, sourceExpected, readBy, stepRead, firstStep, stepBy, stepOf, textGiven}
 use Rattle.receiver_spec.specs.Distance.{signed}
-use Rattle.receiver_spec.specs.Record.{blocksGiven}
+use Rattle.receiver_spec.specs.Record.{blocksIn, blocksGiven}
 use Rattle.base.proofs.PartOf.{part-slice}
 use Rattle.packet_spec.proofs.Lies.{lies, rest-fills}
-use Rattle.receiver_spec.proofs.Blocks.{blocks-in}
 
-module _ (r : Receiver) (p : List ℕ) (c : Content) (e : reading level (sourceExpected r) (r .t140) (r .red) p ≡ holds c) where
+module _ (r : Receiver) (p : List ℕ) (c : Content) (e : readBy r p ≡ holds c) where
   -- the part of the packet that is handed out is the blocks given, joined
   pub text-of-given : (marks : ℕ) (z : ℤ) (w : ℕ) → w ≤ length (c .older)
       → textGiven p (gives (givenFrom p c marks z w)) ≡ joined (blocksGiven r p (gives (givenFrom p c marks z w)))
@@ -28,14 +27,14 @@ module _ (r : Receiver) (p : List ℕ) (c : Content) (e : reading level (sourceE
       let l = lies level (sourceExpected r) (r .t140) (r .red) p c e in
       part-slice (payloadEnd p - length (joined (lastOf (suc w) (blocks c)))) (payloadEnd p) p (omega arith) (l .inside)
       ∙ rest-fills p c l (length (blocks c) - suc w)
-      ∙ ap (λ (k : List (List ℕ)). joined (lastOf (suc w) k)) (sym (blocks-in r p c e))
+      ∙ sym (ap (λ (x : Read). joined (lastOf (suc w) (blocksIn x))) e)
 
 -- whatever the receiver and the packet: the text handed out is the blocks given, joined
 pub text-is-blocks : (r : Receiver) (p : List ℕ) → textGiven p (stepOf r p .answer) ≡ joined (blocksGiven r p (stepOf r p .answer))
 unfolding stepOf
-text-is-blocks r p = go (reading level (sourceExpected r) (r .t140) (r .red) p) refl
+text-is-blocks r p = go (readBy r p) refl
   where
-    go : (x : Read) → reading level (sourceExpected r) (r .t140) (r .red) p ≡ x
+    go : (x : Read) → readBy r p ≡ x
         → textGiven p (stepRead r p x .answer) ≡ joined (blocksGiven r p (stepRead r p x .answer))
     go (refused n) e = refl
     go (holds c) e = by (r .hasSource) (courseOf d)

@@ -7,28 +7,28 @@ use native.Mathlib.Omega.{arith}
 use lib.IntN.{ℤ, pos}
 use lib.ListN.{length}
 use Rattle.packet_spec.specs.Limits.{level}
-use Rattle.packet_spec.specs.Reading.{Content, Read, holds, refused, reading}
+use Rattle.packet_spec.specs.Reading.{Content, Read, holds, refused}
 use Rattle.packet_spec.proofs.Lies.{lies}
 use Rattle.delivery.specs.Numbers.{Course, forward, late, courseOf, distance}
 use Rattle.delivery.specs.Record.{loss, wanted}
 use Rattle.receiver_spec.specs.Opening.{Receiver}
 use Rattle.receiver_spec.specs.Distance.{signed}
-use Rattle.receiver_spec.specs.Step.{Answered, refuses, isLate, gives, givenFrom, sourceExpected, stepRead, firstStep, stepBy, stepOf}
+use Rattle.receiver_spec.specs.Step.{Answered, refuses, isLate, gives, givenFrom, sourceExpected, readBy, stepRead, firstStep, stepBy, stepOf}
 
 abbrev pub Within : List ℕ → Answered → Type 0
 Within p (refuses n) = Unit {0}
 Within p (isLate z) = Unit {0}
 Within p (gives g) = (g .from ≤ g .to) × (g .to ≤ length p)
 
-from-lies : (r : Receiver) (p : List ℕ) (c : Content) → reading level (sourceExpected r) (r .t140) (r .red) p ≡ holds c
+from-lies : (r : Receiver) (p : List ℕ) (c : Content) → readBy r p ≡ holds c
     → (marks : ℕ) (z : ℤ) (w : ℕ) → Within p (gives (givenFrom p c marks z w))
 from-lies r p c e marks z w = let l = lies level (sourceExpected r) (r .t140) (r .red) p c e in (omega arith, l .inside)
 
 pub given-lies : (r : Receiver) (p : List ℕ) → Within p (stepOf r p .answer)
 unfolding stepOf
-given-lies r p = go (reading level (sourceExpected r) (r .t140) (r .red) p) refl
+given-lies r p = go (readBy r p) refl
   where
-    go : (x : Read) → reading level (sourceExpected r) (r .t140) (r .red) p ≡ x → Within p (stepRead r p x .answer)
+    go : (x : Read) → readBy r p ≡ x → Within p (stepRead r p x .answer)
     go (refused n) e = tt
     go (holds c) e = by (r .hasSource) (courseOf d)
       where

@@ -2,26 +2,21 @@
 use Prim.Native.Nat.{ℕ}
 use mathlib.Core.Bool.{Bool, true, false, cond}
 use mathlib.Core.List.{List, [], _∷_, _++_}
-use Rattle.packet_spec.specs.Header.{Any}
-use Rattle.packet_spec.specs.Limits.{level}
-use Rattle.packet_spec.specs.Reading.{Read, holds, refused, reading, blocks}
+use Rattle.packet_spec.specs.Reading.{Read, holds, refused, blocks}
 use Rattle.delivery.specs.Record.{Entry, entries, lastOf}
 use Rattle.receiver_spec.specs.Opening.{Receiver}
-use Rattle.receiver_spec.specs.Step.{Answered, refuses, isLate, gives, stepOf}
+use Rattle.receiver_spec.specs.Step.{Answered, refuses, isLate, gives, readBy, stepOf}
 
 -- the blocks of a packet, oldest first and the primary last
-abbrev pub blocksRead : Read → List (List ℕ)
-blocksRead (refused n) = []
-blocksRead (holds c) = blocks c
-
-abbrev pub blocksIn : Receiver → List ℕ → List (List ℕ)
-blocksIn r p = blocksRead (reading level Any (r .t140) (r .red) p)
+abbrev pub blocksIn : Read → List (List ℕ)
+blocksIn (refused n) = []
+blocksIn (holds c) = blocks c
 
 -- the last blocks of the packet, as many as the answer says
 abbrev pub blocksGiven : Receiver → List ℕ → Answered → List (List ℕ)
 blocksGiven r p (refuses n) = []
 blocksGiven r p (isLate z) = []
-blocksGiven r p (gives g) = lastOf (g .given) (blocksIn r p)
+blocksGiven r p (gives g) = lastOf (g .given) (blocksIn (readBy r p))
 
 abbrev pub lossOf : Answered → ℕ
 lossOf (refuses n) = 0

@@ -38,6 +38,10 @@ pub record Step : Type 0 where
 abbrev pub sourceExpected : Receiver → Expected
 sourceExpected r = cond (r .hasSource) (Only (r .source)) Any
 
+-- a packet as the step reads it: 3 on the types held, 10 to 15, 16, 17 to 21
+abbrev pub readBy : Receiver → List ℕ → Read
+readBy r p = reading level (sourceExpected r) (r .t140) (r .red) p
+
 -- an accepted packet fixes the source, and the next number is expected
 abbrev pub movedTo : Receiver → Content → Receiver
 movedTo r c = record { t140 = r .t140; red = r .red; hasSource = true; source = c .source; expected = next (c .sequence) }
@@ -65,16 +69,14 @@ stepBy forward r p c d = record {
 }
 stepBy late r p c d = record { receiver = r; answer = isLate (signed d) }
 
-abbrev pub laterStep : Receiver → List ℕ → Content → ℕ → Step
-laterStep r p c d = stepBy (courseOf d) r p c d
-
 abbrev pub stepRead : Receiver → List ℕ → Read → Step
 stepRead r p (refused n) = record { receiver = r; answer = refuses n }
-stepRead r p (holds c) = cond (r .hasSource) (laterStep r p c (distance (c .sequence) (r .expected))) (firstStep r p c)
+stepRead r p (holds c) =
+    let d = distance (c .sequence) (r .expected) in
+    cond (r .hasSource) (stepBy (courseOf d) r p c d) (firstStep r p c)
 
--- the checks of reading first: 3 on the types held, 10 to 15, 16, 17 to 21
 unfoldable pub stepOf : Receiver → List ℕ → Step
-stepOf r p = stepRead r p (reading level (sourceExpected r) (r .t140) (r .red) p)
+stepOf r p = stepRead r p (readBy r p)
 
 -- the text handed out: the part of the packet from the first wanted block to the primary's end
 abbrev pub textGiven : List ℕ → Answered → List ℕ
