@@ -8,8 +8,9 @@ use native.Mathlib.Omega.{arith}
 use lib.Dec.{leb, ltb}
 use borrow.Author.Tests.{leb-true, leb-false, ltb-true, ltb-false, lt-ltb, le-ltb, le-leb, lt-leb}
 use Rattle.delivery.specs.Record.{mark, block}
-use Rattle.delivery.specs.Sending.{Sender, InOrder, carries}
+use Rattle.delivery.specs.Sending.{Sender, carries}
 use Rattle.delivery.specs.Claim.{newestOf, above, carried, entry}
+use Rattle.delivery.specs.Core.{InOrder}
 
 -- what rises from each packet to the next rises over all
 module _ (f : ℕ → ℕ) (rises : (k : ℕ) → f k ≤ f (suc k)) where

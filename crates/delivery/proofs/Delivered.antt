@@ -10,9 +10,10 @@ use lib.Dec.{ltb}
 use lib.ListN.{length, replicate}
 use borrow.Author.Tests.{ltb-true, ltb-false}
 use Rattle.delivery.specs.Numbers.{mostAhead, mostBehind, wrapped, next, distance, Course}
-use Rattle.delivery.specs.Record.{Bytes, Entry, mark, block, Receiver, expects, lastOf, loss, wanted, blocksGiven, addsAt, afterAt, adds, after, recordFrom}
-use Rattle.delivery.specs.Sending.{Sender, InOrder, range, sent}
-use Rattle.delivery.specs.Claim.{newestOf, NearFrom, above, entry, Delivered}
+use Rattle.delivery.specs.Record.{Bytes, Entry, mark, block, lastOf, loss, wanted}
+use Rattle.delivery.specs.Sending.{Sender, range}
+use Rattle.delivery.specs.Claim.{newestOf, NearFrom, above, entry}
+use Rattle.delivery.specs.Core.{Receiver, expects, blocksGiven, addsAt, afterAt, adds, after, recordFrom, sent, InOrder, Delivered}
 use Rattle.delivery.proofs.Wrap.{distance-ahead, course-ahead, course-behind}
 use Rattle.delivery.proofs.Ranges.{length-map-range, drop-range, map-range-same, map-range-const, map-range-snoc, map-range-split}
 use Rattle.delivery.proofs.Arrivals.{newest-le, above-ahead, above-behind, entry-carried, entry-lost, entry-later}

@@ -5,9 +5,10 @@ use mathlib.Core.Path.{_≡_, refl, ap, _∙_, sym}
 use native.Mathlib.Omega.{arith}
 use lib.ListN.{length, length-append}
 use Rattle.delivery.specs.Numbers.{mostAhead, mostBehind, wrapped, next, distance, Course}
-use Rattle.delivery.specs.Record.{Entry, block, fresh, expects, addsAt, adds, recordFrom}
-use Rattle.delivery.specs.Sending.{Sender, InOrder, sent}
+use Rattle.delivery.specs.Record.{Entry, block}
+use Rattle.delivery.specs.Sending.{Sender}
 use Rattle.delivery.specs.Claim.{Near, newestOnArrival, entry, expected}
+use Rattle.delivery.specs.Core.{fresh, expects, addsAt, adds, recordFrom, sent, InOrder}
 use Rattle.delivery.proofs.Counts.{first-adds, forward-adds}
 use Rattle.delivery.proofs.Wrap.{course-forward, course-late}
 use Rattle.delivery.proofs.Ranges.{length-map-range}

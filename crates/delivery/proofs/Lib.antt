@@ -7,3 +7,4 @@ pub mod Ranges
 pub mod Arrivals
 pub mod Delivered
 pub mod Edges
+pub mod NoLoss

@@ -3,3 +3,4 @@ pub mod Record
 pub mod Sending
 pub mod Claim
 pub mod Run
+pub mod Core

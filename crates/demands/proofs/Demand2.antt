@@ -1,20 +1,21 @@
 -- Demand 2: over every list of calls the sender stays good, so each packet that it writes is read back; and what was typed is
 -- what left and what waits.
 use Prim.Native.Nat.{ℕ, zero, suc, _≤_}
-use mathlib.Core.Path.{_≡_, _∙_, refl, ap, sym, subst}
+use mathlib.Core.Path.{_≡_, _∙_, refl, ap, ap₂, sym, subst}
 use mathlib.Core.List.{List, [], _∷_, _++_, map, append-assoc, append-nil}
 use mathlib.Core.Bool.{true}
 use native.Mathlib.Omega.{arith}
 use lib.ListN.{length}
 use Rattle.base.specs.Arrays.{over}
 use Rattle.base.specs.Checks.{numberBy}
+use Rattle.base.specs.Every.{Every}
 use Rattle.packet_spec.specs.Limits.{level}
 use Rattle.packet_spec.specs.Header.{Expected}
 use Rattle.packet_spec.specs.Redundancy.{joined}
-use Rattle.packet_spec.specs.Reading.{reading, holds}
+use Rattle.packet_spec.specs.Reading.{Content, reading, holds}
 use Rattle.packet_spec.specs.Encoding.{Admits}
 use Rattle.receiver_spec.specs.Opening.{Receiver}
-use Rattle.receiver_spec.specs.Step.{sourceExpected, stepRead, stepOf}
+use Rattle.receiver_spec.specs.Step.{sourceExpected, readBy, stepRead, stepOf}
 use Rattle.receiver_spec.specs.Record.{isAccepted}
 use Rattle.sender_spec.specs.State.{Settings, Sender, fresh}
 use Rattle.sender_spec.specs.Answers as answers
@@ -24,8 +25,8 @@ use Rattle.sender_spec.specs.Offering.{offerOf, senderWith}
 use Rattle.sender_spec.specs.Packets.{due, taken, left, contentOf, packetBytes, afterPacket}
 use Rattle.sender_spec.specs.Clocking.{clockChecks, clockOf}
 use Rattle.demands.specs.Line.{ours}
-use Rattle.demands.specs.Sending.{Call, offer, clock, Written, writtenBy, acceptedText, writes, offers, after, written, typed, finally}
-use Rattle.demands.specs.Demand2.{ReadBack, AllReadBack, Demand2}
+use Rattle.demands.specs.Sending.{Call, offer, clock, Written, primaryOf, writtenBy, acceptedText, writes, offers, after, written, typed, finally}
+use Rattle.demands.specs.Demand2.{ReadBack, Demand2}
 use Rattle.text_spec.proofs.WellFormed.{characters-are-letters, letters-are-characters}
 use Rattle.packet_spec.proofs.Lies.{lies, block-is}
 use Rattle.receiver_spec.proofs.Core.{accepts}
@@ -41,6 +42,11 @@ after-good : (s : Sender) (c : Call) → Good s → Good (after ours s c)
 after-good s (offer t x) g = offer-good s t x g
 after-good s (clock t p) g = clock-good s t p g
 
+-- a receiver with the payload types, that admits the source, reads what such a reader reads
+pub read-by : (x : Settings) (p : List ℕ) (c : Content) → ((e : Expected) → Admits e (x .source) → reading level e (x .t140) (x .red) p ≡ holds c)
+    → (r : Receiver) → r .t140 ≡ x .t140 → r .red ≡ x .red → Admits (sourceExpected r) (x .source) → readBy r p ≡ holds c
+read-by x p c read r a b h = ap₂ (λ (t140 red : ℕ). reading level (sourceExpected r) t140 red p) a b ∙ read (sourceExpected r) h
+
 -- a packet of a good sender with these settings
 module _ (x : Settings) (s : Sender) (t : ℕ) (e : s .settings ≡ x) (ok : settingsNumber (s .settings) ≡ 0) (g : Good s) (w : Written)
     (bytes : w .packet ≡ packetBytes s t) (is : w .content ≡ contentOf s t) where
@@ -53,23 +59,18 @@ module _ (x : Settings) (s : Sender) (t : ℕ) (e : s .settings ≡ x) (ok : set
 
   accepted : (r : Receiver) → r .t140 ≡ x .t140 → r .red ≡ x .red → Admits (sourceExpected r) (x .source) → isAccepted (stepOf r (w .packet) .answer) ≡ true
   unfolding stepOf
-  accepted r a b h =
-      let q : reading level (sourceExpected r) (r .t140) (r .red) (w .packet) ≡ holds (w .content) =
-      ap (λ (n : ℕ). reading level (sourceExpected r) n (r .red) (w .packet)) a
-      ∙ ap (λ (n : ℕ). reading level (sourceExpected r) (x .t140) n (w .packet)) b
-      ∙ read (sourceExpected r) h in
-      ap (λ y. isAccepted (stepRead r (w .packet) y .answer)) q ∙ accepts r (w .packet) (w .content)
+  accepted r a b h = ap (λ y. isAccepted (stepRead r (w .packet) y .answer)) (read-by x (w .packet) (w .content) read r a b h) ∙ accepts r (w .packet) (w .content)
 
   back : ReadBack ours x w
   back = record { read = read; accepted = accepted }
 
 -- of any good sender with these settings
-pub good-back : (x : Settings) (cs : List Call) (s : Sender) → s .settings ≡ x → Good s → AllReadBack ours x (written ours s cs)
+pub good-back : (x : Settings) (cs : List Call) (s : Sender) → s .settings ≡ x → Good s → Every (ReadBack ours x) (written ours s cs)
 good-back x [] s e g = tt
 good-back x (c ∷ cs) s e g = go (after ours s c) (writes ours s c) (move s c) (good-back x cs (after ours s c)) (after-good s c g)
   where
-    go : (s₁ : Sender) (ws : List Written) → Move s s₁ ws → (s₁ .settings ≡ x → Good s₁ → AllReadBack ours x (written ours s₁ cs)) → Good s₁
-        → AllReadBack ours x (ws ++ written ours s₁ cs)
+    go : (s₁ : Sender) (ws : List Written) → Move s s₁ ws → (s₁ .settings ≡ x → Good s₁ → Every (ReadBack ours x) (written ours s₁ cs)) → Good s₁
+        → Every (ReadBack ours x) (ws ++ written ours s₁ cs)
     go s₁ ws still f h = f e h
     go s₁ ws (moved s₂ l a b d) f h = f (a ∙ e) h
     go s₁ ws (sends t p l n u w) f h = (back x s t e n g _ w refl, f e h)
@@ -79,7 +80,7 @@ takes-front : (s : Sender) (t : ℕ) → taken s t ++ left s t ≡ s .waiting
 takes-front s t = append-nil (s .waiting)
 
 abbrev primaries : List Written → List ℕ
-primaries ws = joined (map (λ w. w .content .primary) ws)
+primaries ws = joined (map primaryOf ws)
 
 -- from any sender on: what left, and then what waits, is what waited and what was typed
 typed-from : (cs : List Call) (s : Sender) → primaries (written ours s cs) ++ finally ours s cs .waiting ≡ s .waiting ++ typed ours s cs
@@ -129,7 +130,7 @@ demand-2 = record {
   joins = joins;
   writes-when-due = writes-when-due;
   read-back = λ x calls o.
-      subst (λ (s : Sender). AllReadBack ours x (written ours s calls)) (sym (open-passed x o .1)) (good-back x calls (fresh x) refl (fresh-good x));
+      subst (λ (s : Sender). Every (ReadBack ours x) (written ours s calls)) (sym (open-passed x o .1)) (good-back x calls (fresh x) refl (fresh-good x));
   as-typed = λ x calls o.
       subst (λ (s : Sender). primaries (written ours s calls) ++ finally ours s calls .waiting ≡ typed ours s calls) (sym (open-passed x o .1)) (typed-from calls (fresh x));
 }

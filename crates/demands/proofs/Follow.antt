@@ -18,8 +18,8 @@ use Rattle.sender_spec.specs.Offering.{offerOf, senderWith}
 use Rattle.sender_spec.specs.Packets.{due, packetBytes, recentRun, carried, taken, contentOf, repeated, afterPacket}
 use Rattle.sender_spec.specs.Settings.{settingsNumber}
 use Rattle.sender_spec.specs.Clocking.{clockOf}
-use Rattle.demands.specs.AnySender.{IsPacket}
 use Rattle.demands.specs.Line.{ours}
+use Rattle.demands.specs.Rules.{IsPacket}
 use Rattle.demands.specs.Sending.{Call, offer, clock, Written, writtenBy, writes, after, written, finally}
 use Rattle.delivery.proofs.Runs.{run-within}
 use Rattle.sender_spec.proofs.Shapes as shapes
@@ -89,7 +89,7 @@ rises-to f r j n h = let e : j + (n - j) ≡ n = omega arith in subst (λ k. f j
 
 module _ (R : ℕ) (small : R ≤ level) (first : ℕ) (f : ℕ → Block) (f-rises : (k : ℕ) → f k .at ≤ f (suc k) .at) where
   abbrev pub rules : Rules
-  rules = record { level = R; first = first; block = λ k. f k .text; time = λ k. f k .at; time-rises = f-rises }
+  rules = record { level = R; first = first; block = λ k. f k .text; time = λ k. f k .at }
 
   -- the sender's number is n, and its kept blocks are the last of the log before n
   pub record At (s : Sender) (n : ℕ) : Type 0 where

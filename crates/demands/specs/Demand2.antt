@@ -1,12 +1,13 @@
 -- Demand 2: reading means what 01 and the RFCs say, writing likewise, and what is written is read back.
 use Prim.Native.Nat.{ℕ, _≤_}
 use mathlib.Core.Path.{_≡_}
-use mathlib.Core.List.{List, [], _∷_, _++_, map}
+use mathlib.Core.List.{List, [], _++_, map}
 use mathlib.Core.Logic.{_↔_}
 use mathlib.Core.Bool.{true}
 use lib.ListN.{length, getD}
 use Rattle.base.specs.Arrays.{over}
 use Rattle.base.specs.Checks.{numberBy}
+use Rattle.base.specs.Every.{Every}
 use Rattle.text_spec.specs.Utf8.{Characters}
 use Rattle.text_spec.specs.WellFormed.{Letters}
 use Rattle.packet_spec.specs.Limits.{level}
@@ -23,7 +24,7 @@ use Rattle.sender_spec.specs.Offering.{senderWith}
 use Rattle.sender_spec.specs.Packets.{due, packetBytes, afterPacket}
 use Rattle.sender_spec.specs.Clocking.{clockChecks}
 use Rattle.demands.specs.Line.{Line}
-use Rattle.demands.specs.Sending.{Call, Written, written, typed, finally}
+use Rattle.demands.specs.Sending.{Call, Written, primaryOf, sentBy, typedBy, leftBy}
 
 -- a packet is read, by every reader with the sender's payload types that expects its source, as what it was written as: marker,
 -- sequence, timestamp, source, older blocks with their offsets, primary; and a receiver with these types that has no source yet,
@@ -31,10 +32,6 @@ use Rattle.demands.specs.Sending.{Call, Written, written, typed, finally
 pub record ReadBack (l : Line) (x : Settings) (w : Written) : Type 0 where
   pub read : (e : Expected) → Admits e (x .source) → l .read e (x .t140) (x .red) (w .packet) ≡ holds (w .content)
   pub accepted : (r : Receiver) → r .t140 ≡ x .t140 → r .red ≡ x .red → Admits (sourceExpected r) (x .source) → isAccepted (l .step r (w .packet) .answer) ≡ true
-
-abbrev pub AllReadBack : Line → Settings → List Written → Type 0
-AllReadBack l x [] = Unit {0}
-AllReadBack l x (w ∷ ws) = ReadBack l x w × AllReadBack l x ws
 
 pub record Demand2 (l : Line) : Type 0 where
   -- text is letters of RFC 3629's table, one behind the other
@@ -48,8 +45,7 @@ pub record Demand2 (l : Line) : Type 0 where
   pub writes-when-due : (s : Sender) (t : ℕ) (p : List ℕ) → numberBy (clockChecks s t) ≡ 0 → due s t ≡ true → length (packetBytes s t) ≤ length p
       → (l .clock s t p .answer ≡ answers.sent (length (packetBytes s t))) × (l .clock s t p .lent ≡ over (packetBytes s t) p) × (l .clock s t p .sender ≡ afterPacket s t)
   -- over every list of calls from an accepted opening: what was written is read back,
-  pub read-back : (x : Settings) (calls : List Call) → l .openSender x .number ≡ 0 → AllReadBack l x (written l (l .openSender x .sender) calls)
+  pub read-back : (x : Settings) (calls : List Call) → l .openSender x .number ≡ 0 → Every (ReadBack l x) (sentBy l x calls)
   -- and the primaries, joined, and then what waits are the texts of the accepted offers: nothing is lost, doubled or moved
   pub as-typed : (x : Settings) (calls : List Call) → l .openSender x .number ≡ 0
-      → joined (map (λ w. w .content .primary) (written l (l .openSender x .sender) calls)) ++ finally l (l .openSender x .sender) calls .waiting
-      ≡ typed l (l .openSender x .sender) calls
+      → joined (map primaryOf (sentBy l x calls)) ++ leftBy l x calls .waiting ≡ typedBy l x calls

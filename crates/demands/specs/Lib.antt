@@ -1,5 +1,6 @@
 pub mod Line
 pub mod Sending
+pub mod Rules
 pub mod Demand1
 pub mod Demand2
-pub mod AnySender
+pub mod Demand3

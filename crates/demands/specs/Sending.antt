@@ -3,7 +3,7 @@ use Prim.Native.Nat.{ℕ, zero, suc}
 use mathlib.Core.List.{List, [], _∷_, _++_}
 use lib.ListN.{take}
 use Rattle.packet_spec.specs.Reading.{Content}
-use Rattle.sender_spec.specs.State.{Sender}
+use Rattle.sender_spec.specs.State.{Settings, Sender}
 use Rattle.sender_spec.specs.Answers as answers
 use Rattle.sender_spec.specs.Answers.{Answered}
 use Rattle.sender_spec.specs.Packets.{contentOf}
@@ -19,6 +19,9 @@ pub record Written : Type 0 where
   pub packet : List ℕ
   pub time : ℕ
   pub content : Content
+
+abbrev pub primaryOf : Written → List ℕ
+primaryOf w = w .content .primary
 
 -- the first n bytes of the lent space after a call that answered n
 abbrev pub writtenBy : Answered → List ℕ → ℕ → Content → List Written
@@ -57,3 +60,13 @@ module _ (l : Line) where
   abbrev pub finally : Sender → List Call → Sender
   finally s [] = s
   finally s (c ∷ cs) = finally (after s c) cs
+
+  -- the same from an opening on
+  abbrev pub sentBy : Settings → List Call → List Written
+  sentBy x calls = written (l .openSender x .sender) calls
+
+  abbrev pub typedBy : Settings → List Call → List ℕ
+  typedBy x calls = typed (l .openSender x .sender) calls
+
+  abbrev pub leftBy : Settings → List Call → Sender
+  leftBy x calls = finally (l .openSender x .sender) calls

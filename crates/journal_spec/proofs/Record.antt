@@ -39,11 +39,11 @@ written-entries n bs =
     ∙ ap (λ (l : List ℕ). l ++ writtenRecord (map block bs)) (written-marks n)
     ∙ ap (λ (l : List ℕ). marks n ++ l) (written-blocks bs)
 
-pub text-is-record : (r : Receiver) (ps : List (List ℕ)) → textOf r ps ≡ writtenRecord (recordOf r ps)
+pub text-is-record : (r : Receiver) (ps : List (List ℕ)) → textOf r ps ≡ writtenRecord (recordOf stepOf r ps)
 text-is-record r [] = refl
 text-is-record r (p ∷ ps) =
     let s = stepOf r p in
     ap (λ (l : List ℕ). printedOf p (s .answer) ++ l) (text-is-record (s .receiver) ps)
-    ∙ ap (λ (l : List ℕ). marks (lossOf (s .answer)) ++ l ++ writtenRecord (recordOf (s .receiver) ps)) (text-is-blocks r p)
-    ∙ ap (λ (l : List ℕ). l ++ writtenRecord (recordOf (s .receiver) ps)) (sym (written-entries (lossOf (s .answer)) (blocksGiven r p (s .answer))))
-    ∙ sym (written-append (entriesOf r p (s .answer)) (recordOf (s .receiver) ps))
+    ∙ ap (λ (l : List ℕ). marks (lossOf (s .answer)) ++ l ++ writtenRecord (recordOf stepOf (s .receiver) ps)) (text-is-blocks r p)
+    ∙ ap (λ (l : List ℕ). l ++ writtenRecord (recordOf stepOf (s .receiver) ps)) (sym (written-entries (lossOf (s .answer)) (blocksGiven r p (s .answer))))
+    ∙ sym (written-append (entriesOf r p (s .answer)) (recordOf stepOf (s .receiver) ps))

@@ -11,9 +11,10 @@ use Rattle.packet_spec.specs.Limits.{level}
 use Rattle.packet_spec.specs.Redundancy.{blocksOf}
 use Rattle.packet_spec.specs.Reading.{Content, Read, holds, refused, reading}
 use Rattle.delivery.specs.Numbers.{Course, forward, late, courseOf, distance}
-use Rattle.delivery.specs.Record as core
+use Rattle.delivery.specs.Core as core
 use Rattle.delivery.specs.Record.{Entry, entries, lastOf, loss, wanted}
-use Rattle.delivery.specs.Sending.{Sender, sent}
+use Rattle.delivery.specs.Sending.{Sender}
+use Rattle.delivery.specs.Core.{sent}
 use Rattle.receiver_spec.specs.Step.{readBy, stepRead, firstStep, stepBy, stepOf}
 use Rattle.receiver_spec.specs.Record.{blocksIn, blocksGiven, entriesOf, recordOf, isAccepted, acceptedOf}
 use Rattle.receiver_spec.proofs.Blocks.{last-snoc, read-by-any}
@@ -80,7 +81,7 @@ one-step r p rest (holds c) e =
     (adds-is r p c e (r .hasSource) (courseOf d) d ∙ adds-state (r .hasSource) (r .expected) (packetOf c))
     (ap (λ (t : core.Receiver). core.recordFrom t rest) (after-is r p c e (r .hasSource) (courseOf d) d ∙ after-state (r .hasSource) (r .expected) (packetOf c)))
 
-pub same-record : (ps : List (List ℕ)) (r : Receiver) → recordOf r ps ≡ core.recordFrom (state r) (packets r ps)
+pub same-record : (ps : List (List ℕ)) (r : Receiver) → recordOf stepOf r ps ≡ core.recordFrom (state r) (packets r ps)
 unfolding stepOf
 same-record [] r = refl
 same-record (p ∷ ps) r =
@@ -89,7 +90,7 @@ same-record (p ∷ ps) r =
     ∙ one-step r p (packets (s .receiver) ps) (readBy r p) refl
 
 -- what a step keeps, and whether it accepts
-keeps-types : (r : Receiver) (p : List ℕ) (x : Read) → (stepRead r p x .receiver .t140 ≡ r .t140) × (stepRead r p x .receiver .red ≡ r .red)
+pub keeps-types : (r : Receiver) (p : List ℕ) (x : Read) → (stepRead r p x .receiver .t140 ≡ r .t140) × (stepRead r p x .receiver .red ≡ r .red)
 keeps-types r p (refused n) = (refl, refl)
 keeps-types r p (holds c) = by (r .hasSource) (courseOf (distance (c .sequence) (r .expected)))
   where
@@ -115,7 +116,7 @@ accepts r p c = by (r .hasSource) (courseOf (distance (c .sequence) (r .expected
 module _ (t140 red : ℕ) (S : Sender) (packet : ℕ → List ℕ)
     (reads : (k : ℕ) (c : Content) → reading level Any t140 red (packet k) ≡ holds c → packetOf c ≡ sent S k) where
   pub same-packets : (ps : List (List ℕ)) (r : Receiver) → r .t140 ≡ t140 → r .red ≡ red → (ks : List ℕ)
-      → acceptedOf r ps ≡ map packet ks → packets r ps ≡ map (sent S) ks
+      → acceptedOf stepOf r ps ≡ map packet ks → packets r ps ≡ map (sent S) ks
   unfolding stepOf
   same-packets [] r a b [] e = refl
   same-packets [] r a b (k ∷ ks) e = absurd (nil≢cons e)
@@ -133,10 +134,10 @@ module _ (t140 red : ℕ) (S : Sender) (packet : ℕ → List ℕ)
           ap₂ {C = List core.Packet} (λ x xs. x ∷ xs) (reads k c ours) (f ks (tail-eq-of-cons-eq e))
 
       go : (x : Read) → readBy r p ≡ x → (ks : List ℕ)
-          → ((ks : List ℕ) → acceptedOf (stepRead r p x .receiver) ps ≡ map packet ks → packets (stepRead r p x .receiver) ps ≡ map (sent S) ks)
-          → cond (isAccepted (stepRead r p x .answer)) (p ∷ []) [] ++ acceptedOf (stepRead r p x .receiver) ps ≡ map packet ks
+          → ((ks : List ℕ) → acceptedOf stepOf (stepRead r p x .receiver) ps ≡ map packet ks → packets (stepRead r p x .receiver) ps ≡ map (sent S) ks)
+          → cond (isAccepted (stepRead r p x .answer)) (p ∷ []) [] ++ acceptedOf stepOf (stepRead r p x .receiver) ps ≡ map packet ks
           → packetsRead x ++ packets (stepRead r p x .receiver) ps ≡ map (sent S) ks
       go (refused n) q ks f e = f ks e
       go (holds c) q ks f e =
-          first c q (acceptedOf (stepRead r p (holds c) .receiver) ps) (packets (stepRead r p (holds c) .receiver) ps) f ks
-          (ap (λ (t : Bool). cond t (p ∷ []) [] ++ acceptedOf (stepRead r p (holds c) .receiver) ps) (sym (accepts r p c)) ∙ e)
+          first c q (acceptedOf stepOf (stepRead r p (holds c) .receiver) ps) (packets (stepRead r p (holds c) .receiver) ps) f ks
+          (ap (λ (t : Bool). cond t (p ∷ []) [] ++ acceptedOf stepOf (stepRead r p (holds c) .receiver) ps) (sym (accepts r p c)) ∙ e)

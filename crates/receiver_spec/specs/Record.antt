@@ -5,7 +5,7 @@ use mathlib.Core.List.{List, [], _∷_, _++_}
 use Rattle.packet_spec.specs.Reading.{Read, holds, refused, blocks}
 use Rattle.delivery.specs.Record.{Entry, entries, lastOf}
 use Rattle.receiver_spec.specs.Opening.{Receiver}
-use Rattle.receiver_spec.specs.Step.{Answered, refuses, isLate, gives, readBy, stepOf}
+use Rattle.receiver_spec.specs.Step.{Answered, refuses, isLate, gives, Step, readBy}
 
 -- the blocks of a packet, oldest first and the primary last
 abbrev pub blocksIn : Read → List (List ℕ)
@@ -26,17 +26,19 @@ lossOf (gives g) = g .loss
 abbrev pub entriesOf : Receiver → List ℕ → Answered → List Entry
 entriesOf r p a = entries (lossOf a) (blocksGiven r p a)
 
--- each call gets the receiver that the last call returned
-abbrev pub recordOf : Receiver → List (List ℕ) → List Entry
-recordOf r [] = []
-recordOf r (p ∷ ps) = entriesOf r p (stepOf r p .answer) ++ recordOf (stepOf r p .receiver) ps
-
 -- accepted: answered without a refusal number, late or not
 abbrev pub isAccepted : Answered → Bool
 isAccepted (refuses n) = false
 isAccepted (isLate z) = true
 isAccepted (gives g) = true
 
-abbrev pub acceptedOf : Receiver → List (List ℕ) → List (List ℕ)
-acceptedOf r [] = []
-acceptedOf r (p ∷ ps) = cond (isAccepted (stepOf r p .answer)) (p ∷ []) [] ++ acceptedOf (stepOf r p .receiver) ps
+-- the record of a list of packets, and those of them that are accepted, by a receiver's step: each call gets the receiver that
+-- the last call returned
+module _ (step : Receiver → List ℕ → Step) where
+  abbrev pub recordOf : Receiver → List (List ℕ) → List Entry
+  recordOf r [] = []
+  recordOf r (p ∷ ps) = entriesOf r p (step r p .answer) ++ recordOf (step r p .receiver) ps
+
+  abbrev pub acceptedOf : Receiver → List (List ℕ) → List (List ℕ)
+  acceptedOf r [] = []
+  acceptedOf r (p ∷ ps) = cond (isAccepted (step r p .answer)) (p ∷ []) [] ++ acceptedOf (step r p .receiver) ps

@@ -12,7 +12,8 @@ use Rattle.delivery.specs.Run.{oldestAge}
 use Rattle.sender_spec.specs.State.{Block, Sender}
 use Rattle.sender_spec.specs.Packets.{recent, recentRun, carried, repeated, contentOf}
 use Rattle.base.proofs.Tests.{by-test}
-use Rattle.base.proofs.Every.{Every, every-take, every-reverse, every-map}
+use Rattle.base.specs.Every.{Every}
+use Rattle.base.proofs.Every.{every-take, every-reverse, every-map}
 use Rattle.sender_spec.proofs.Good.{Sendable, AllSendable, Good}
 
 -- an older block of a packet

@@ -14,7 +14,8 @@ use Rattle.sender_spec.specs.Offering.{offerOf}
 use Rattle.sender_spec.specs.Packets.{taken, left, afterPacket}
 use Rattle.sender_spec.specs.Clocking.{clockOf}
 use Rattle.text_spec.proofs.TextJoin.{text-join}
-use Rattle.base.proofs.Every.{Every, every-take}
+use Rattle.base.specs.Every.{Every}
+use Rattle.base.proofs.Every.{every-take}
 use Rattle.sender_spec.proofs.Shapes.{Offer, joined, Clock, quiet, sent, offer-shape, clock-shape}
 use Rattle.sender_spec.proofs.Shapes
 

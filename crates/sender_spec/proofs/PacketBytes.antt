@@ -13,7 +13,8 @@ use Rattle.sender_spec.specs.Settings.{settingsNumber}
 use Rattle.sender_spec.specs.Packets.{contentOf, packetBytes}
 use Rattle.base.proofs.Tests.{by-test}
 use Rattle.packet_spec.proofs.ReadBack.{types-small}
-use Rattle.base.proofs.Every.{Every, every-append}
+use Rattle.base.specs.Every.{Every}
+use Rattle.base.proofs.Every.{every-append}
 use Rattle.sender_spec.proofs.TextBytes.{AllBytes, text-bytes}
 use Rattle.sender_spec.proofs.Good.{Sendable, Good, taken-good}
 use Rattle.sender_spec.proofs.Passed.{settings-good}

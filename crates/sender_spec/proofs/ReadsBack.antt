@@ -18,7 +18,7 @@ use Rattle.sender_spec.specs.State.{Sender}
 use Rattle.sender_spec.specs.Packets.{recentRun, repeated, contentOf, packetBytes}
 use Rattle.base.proofs.Tests.{by-test}
 use Rattle.packet_spec.proofs.ReadBack.{plain-back, redundant-back}
-use Rattle.base.proofs.Every.{Every}
+use Rattle.base.specs.Every.{Every}
 use Rattle.sender_spec.proofs.Good.{Sendable, Good, taken-good}
 use Rattle.sender_spec.proofs.Passed.{settings-good}
 use Rattle.sender_spec.proofs.Sizes.{Short, plain-fits, packet-fits, lengths-fit}

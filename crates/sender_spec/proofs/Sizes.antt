@@ -9,7 +9,7 @@ use Rattle.packet_spec.specs.Redundancy.{Block, blocksOf, joined}
 use Rattle.packet_spec.specs.Reading.{Content}
 use Rattle.packet_spec.specs.Encoding.{headsBytes, plainBytes, redundantBytes, LengthsFit}
 use Rattle.sender_spec.specs.Limits.{roomSize}
-use Rattle.base.proofs.Every.{Every}
+use Rattle.base.specs.Every.{Every}
 
 -- a block as long as the sender writes
 abbrev pub Short : Block → Type 0

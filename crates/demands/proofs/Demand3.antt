@@ -1,0 +1,64 @@
+-- Demand 3, whole.
+use Prim.Native.Nat.{ℕ}
+use mathlib.Core.Path.{_≡_, _∙_, refl, sym, subst}
+use mathlib.Core.List.{List, map}
+use mathlib.Core.Bool.{false}
+use Rattle.packet_spec.specs.Header.{typesBad}
+use Rattle.delivery.specs.Claim.{Near, expected}
+use Rattle.delivery.specs.Run.{senderOf}
+use Rattle.receiver_spec.specs.Opening.{Receiver, freshReceiver, openingOf}
+use Rattle.receiver_spec.specs.Step.{stepOf}
+use Rattle.receiver_spec.specs.Record.{recordOf, acceptedOf}
+use Rattle.sender_spec.specs.State.{Settings, Sender, fresh}
+use Rattle.sender_spec.specs.Settings.{settingsNumber}
+use Rattle.sender_spec.specs.Opening as sender
+use Rattle.demands.specs.Line.{ours}
+use Rattle.demands.specs.Rules.{KeepsRules}
+use Rattle.demands.specs.Sending.{Call, written, finally, sentBy, leftBy}
+use Rattle.demands.specs.Demand3.{rulesOf, packetAt, SpacedAfter, Arrives, Demand3}
+use Rattle.receiver_spec.proofs.TextGiven.{text-is-blocks}
+use Rattle.sender_spec.proofs.Accepted.{open-passed}
+use Rattle.sender_spec.proofs.Good.{fresh-good}
+use Rattle.sender_spec.proofs.Passed.{settings-good}
+use Rattle.demands.proofs.Demand1.{receiver-opened}
+use Rattle.demands.proofs.Demand2.{good-back}
+use Rattle.demands.proofs.Recorded.{recorded}
+use Rattle.demands.proofs.OursKeeps.{keeps, spaced}
+use Rattle.demands.proofs.Arrives.{all-from, arrived}
+
+module _ (x : Settings) (calls : List Call) (o : sender.openingOf x .number ≡ 0) where
+  -- what holds from a fresh sender on holds from the opening on
+  from-fresh : (P : Sender → Type 0) → P (fresh x) → P (sender.openingOf x .sender)
+  from-fresh P = subst P (sym (open-passed x o .1))
+
+  -- a receiver with the sender's payload types opens
+  opens : openingOf (x .t140) (x .red) .number ≡ 0
+  opens = let t : typesBad (x .t140) (x .red) ≡ false = settings-good x (open-passed x o .0) .2 in rw t
+
+  pub ours-keeps : KeepsRules (x .t140) (x .red) (rulesOf x (sentBy ours x calls) (leftBy ours x calls .clock)) (packetAt (sentBy ours x calls))
+  ours-keeps =
+      from-fresh (λ (s : Sender). KeepsRules (x .t140) (x .red) (rulesOf x (written ours s calls) (finally ours s calls .clock)) (packetAt (written ours s calls)))
+      (keeps x calls (open-passed x o .0))
+
+  -- and so the record of whatever copies of its packets a receiver is given is the expected one
+  pub ours-recorded : (given : List (List ℕ)) (ks : List ℕ)
+      → acceptedOf stepOf (openingOf (x .t140) (x .red) .receiver) given ≡ map (packetAt (sentBy ours x calls)) ks
+      → Near (senderOf (rulesOf x (sentBy ours x calls) (leftBy ours x calls .clock))) ks
+      → recordOf stepOf (openingOf (x .t140) (x .red) .receiver) given ≡ expected (senderOf (rulesOf x (sentBy ours x calls) (leftBy ours x calls .clock))) ks
+  ours-recorded = recorded (x .t140) (x .red) _ _ ours-keeps opens
+
+  arrives : Arrives ours (openingOf (x .t140) (x .red) .receiver) (sentBy ours x calls)
+  arrives =
+      let g = open-passed x o .0 in
+      subst (λ (r : Receiver). Arrives ours r (sentBy ours x calls)) (sym (receiver-opened (x .t140) (x .red) opens))
+      (from-fresh (λ (s : Sender). Arrives ours (freshReceiver (x .t140) (x .red)) (written ours s calls))
+      (arrived x (written ours (fresh x) calls) _ (keeps x calls g) (good-back x calls (fresh x) refl (fresh-good x)) (all-from x calls (fresh x) refl)))
+
+pub demand-3 : Demand3 ours
+demand-3 = record {
+  recorded = λ t140 red o rules packet keeps. recorded t140 red rules packet keeps o;
+  text = text-is-blocks;
+  keeps = ours-keeps;
+  spaced = λ x calls o. from-fresh x calls o (λ (s : Sender). SpacedAfter false 0 (x .buffering) (written ours s calls)) (spaced calls (fresh x));
+  arrives = arrives;
+}
