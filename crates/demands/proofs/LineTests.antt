@@ -1,0 +1,15 @@
+-- 01's line tests, by computing.
+use mathlib.Core.Path.{refl}
+use Rattle.packet_spec.specs.Redundancy.{headers}
+use Rattle.packet_spec.specs.Reading.{reading}
+use Rattle.receiver_spec.specs.Step.{stepOf}
+use Rattle.sender_spec.specs.Settings.{settingsNumber}
+use Rattle.sender_spec.specs.Opening.{openingOf}
+use Rattle.sender_spec.specs.Offering.{offerOf}
+use Rattle.sender_spec.specs.Clocking.{clockOf}
+use Rattle.demands.specs.LineTests.{table, LineTests}
+
+pub line-tests : LineTests
+unfolding table stepOf reading headers openingOf offerOf clockOf settingsNumber
+line-tests =
+    (refl, (refl, (refl, (refl, (refl, (refl, (refl, (refl, (refl, (refl, (refl, (refl, (refl, (refl, (refl, (refl, (refl, (refl, (refl, (refl, tt))))))))))))))))))))
