@@ -14,7 +14,7 @@ use Rattle.receiver_spec.specs.Opening as receiver
 use Rattle.receiver_spec.specs.Opening.{Receiver}
 use Rattle.receiver_spec.specs.Step.{Answered, refuses, isLate, gives, readBy, stepOf, textGiven}
 use Rattle.sender_spec.specs.State as state
-use Rattle.sender_spec.specs.State.{Settings, Progress, Sender}
+use Rattle.sender_spec.specs.State.{Settings, Sender}
 use Rattle.sender_spec.specs.Answers as answers
 use Rattle.sender_spec.specs.Opening.{openingOf}
 use Rattle.sender_spec.specs.Offering.{offerOf}
