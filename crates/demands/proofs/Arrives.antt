@@ -80,7 +80,7 @@ module _ (x : Settings) where
       accepted = accepted;
       record-is =
           core-record (x .t140) (x .red) (rulesOf x ws latest) (packetAt ws) keeps (map (λ w. w .packet) ws) (range 0 (length ws))
-              (accepted ∙ sym (map-range-all [] (map (λ w. w .packet) ws) (length ws) (length-map ws (λ w. w .packet))))
+          (accepted ∙ sym (map-range-all [] (map (λ w. w .packet) ws) (length ws) (length-map ws (λ w. w .packet))))
           ∙ in-order (rulesOf x ws latest) (length ws)
           ∙ sym (map-map block (rulesOf x ws latest .block) (range 0 (length ws)))
           ∙ ap (map block) (map-range-all [] (map primaryOf ws) (length ws) (length-map ws primaryOf));

@@ -6,3 +6,6 @@ pub mod Recorded
 pub mod OursKeeps
 pub mod Arrives
 pub mod Demand3
+pub mod LineTests
+pub mod ImpostorReceivers
+pub mod ImpostorSenders
