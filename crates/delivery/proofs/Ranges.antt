@@ -4,7 +4,7 @@ use mathlib.Core.Path.{_≡_, refl, ap, ap₂, _∙_, sym}
 use mathlib.Core.List.{List, [], _∷_, _++_, map, map-append}
 use native.Mathlib.Nat.{add-zero, zero-add, suc-add, sub-zero, zero-sub, suc-sub-suc}
 use native.Mathlib.Omega.{arith}
-use lib.ListN.{length, getD, drop, replicate}
+use lib.ListN.{length, drop, replicate}
 use Rattle.delivery.specs.Sending.{range}
 
 range-append : (a m n : ℕ) → range a (m + n) ≡ range a m ++ range (a + m) n
@@ -48,15 +48,3 @@ module _ {B : Type 0} where
   pub map-range-split : (f : ℕ → B) (a b m n c : ℕ) → a + m ≡ b → m + n ≡ c → map f (range a m) ++ map f (range b n) ≡ map f (range a c)
   map-range-split f a b m n c p q =
       rw (← p, ← q) (sym (ap (map f) (range-append a m n) ∙ map-append f (range a m) (range (a + m) n)))
-
-  map-range-shift : (f : ℕ → B) (a n : ℕ) → map f (range (suc a) n) ≡ map (λ (k : ℕ). f (suc k)) (range a n)
-  map-range-shift f a zero = refl
-  map-range-shift f a (suc n) = ap (λ (l : List B). f (suc a) ∷ l) (map-range-shift f (suc a) n)
-
-  -- a list is its elements in order
-  pub map-range-all : (d : B) (l : List B) (n : ℕ) → length l ≡ n → map (λ (k : ℕ). getD l k d) (range 0 n) ≡ l
-  map-range-all d [] zero e = refl
-  map-range-all d [] (suc n) e = absurd (omega arith)
-  map-range-all d (x ∷ l) zero e = absurd (omega arith)
-  map-range-all d (x ∷ l) (suc n) e =
-      ap (λ (xs : List B). x ∷ xs) (map-range-shift (λ (k : ℕ). getD (x ∷ l) k d) 0 n ∙ map-range-all d l n (omega arith))

@@ -1,39 +1,39 @@
 -- What our sender wrote, given once each and in order to a fresh receiver with its payload types, arrives whole.
-use Prim.Native.Nat.{ℕ, zero, suc}
-use mathlib.Core.Path.{_≡_, _∙_, refl, ap, sym, subst}
-use mathlib.Core.List.{List, [], _∷_, _++_, map, map-map}
+use Prim.Native.Nat.{ℕ, suc, _≤_}
+use mathlib.Core.Path.{_≡_, _∙_, refl, ap, ap₂, sym, subst}
+use mathlib.Core.List.{List, [], _∷_, _++_, map}
 use mathlib.Core.Bool.{Bool, true, false, cond}
-use lib.ListN.{length, getD, length-map}
+use Rattle.base.specs.Every.{Every}
+use Rattle.packet_spec.specs.Limits.{level}
 use Rattle.packet_spec.specs.Reading.{Content, Read, holds}
 use Rattle.packet_spec.specs.Encoding.{Admits}
 use Rattle.delivery.specs.Numbers.{Course, forward, late, courseOf, distance}
 use Rattle.delivery.specs.Record.{Entry, block}
-use Rattle.delivery.specs.Sending.{range}
-use Rattle.delivery.specs.Core.{recordFrom, sent}
-use Rattle.delivery.specs.Core as core
 use Rattle.delivery.specs.Run.{Rules, senderOf}
+use Rattle.delivery.specs.Core as core
+use Rattle.delivery.specs.Core.{sent}
 use Rattle.receiver_spec.specs.Opening.{Receiver, freshReceiver}
 use Rattle.receiver_spec.specs.Step.{sourceExpected, readBy, firstStep, stepBy, stepRead, stepOf}
-use Rattle.receiver_spec.specs.Record.{isAccepted, recordOf, acceptedOf}
-use Rattle.sender_spec.specs.State.{Settings, Sender}
+use Rattle.receiver_spec.specs.Record.{entriesOf}
+use Rattle.sender_spec.specs.State.{Settings, Block, Sender, fresh}
+use Rattle.sender_spec.specs.Settings.{settingsNumber}
 use Rattle.demands.specs.Line.{ours}
-use Rattle.demands.specs.Rules.{KeepsRules}
 use Rattle.demands.specs.Sending.{Call, Written, primaryOf, writes, after, written}
 use Rattle.demands.specs.Demand2.{ReadBack}
-use Rattle.demands.specs.Demand3.{rulesOf, packetAt, Arrives}
-use Rattle.base.specs.Every.{Every}
-use Rattle.delivery.proofs.Ranges.{map-range-all}
-use Rattle.delivery.proofs.NoLoss.{in-order}
-use Rattle.receiver_spec.proofs.Core.{keeps-types}
-use Rattle.demands.proofs.Follow.{Move, still, moved, sends, move}
-use Rattle.demands.proofs.Demand2.{read-by}
-use Rattle.demands.proofs.Recorded.{core-record}
+use Rattle.delivery.proofs.NoLoss.{before, adds-own, after-own}
+use Rattle.receiver_spec.proofs.Core.{packetOf, state, step-adds, step-after, keeps-types}
+use Rattle.receiver_spec.proofs.OneEach.{OneEach, none, one}
+use Rattle.sender_spec.proofs.Good.{fresh-good}
+use Rattle.demands.proofs.Follow.{Move, still, moved, sends, move, rules, Packets}
+use Rattle.demands.proofs.Demand2.{read-by, good-back}
+use Rattle.demands.proofs.Recorded.{is-sent}
+use Rattle.demands.proofs.OursKeeps.{log-rises, small, packets}
 
 -- every packet has the sender's source
 abbrev From : Settings → Written → Type 0
 From x w = w .content .source ≡ x .source
 
-pub all-from : (x : Settings) (cs : List Call) (s : Sender) → s .settings ≡ x → Every (From x) (written ours s cs)
+all-from : (x : Settings) (cs : List Call) (s : Sender) → s .settings ≡ x → Every (From x) (written ours s cs)
 all-from x [] s e = tt
 all-from x (c ∷ cs) s e = go (after ours s c) (writes ours s c) (move s c) (all-from x cs (after ours s c))
   where
@@ -52,36 +52,36 @@ admits-on r p c source e a = go (r .hasSource) (courseOf (distance (c .sequence)
     go true late = a
     go false v = sym e
 
-module _ (x : Settings) where
-  all-accepted : (ws : List Written) (r : Receiver) → r .t140 ≡ x .t140 → r .red ≡ x .red → Admits (sourceExpected r) (x .source)
-      → Every (ReadBack ours x) ws → Every (From x) ws → acceptedOf stepOf r (map (λ w. w .packet) ws) ≡ map (λ w. w .packet) ws
+module _ (x : Settings) (R : ℕ) (small : R ≤ level) (first : ℕ) (f : ℕ → Block) (f-rises : (k : ℕ) → f k .at ≤ f (suc k) .at) where
+  abbrev P : Rules
+  P = rules R small first f f-rises
+
+  -- a receiver that has accepted the k packets before these
+  one-each : (ws : List Written) (k : ℕ) (r : Receiver) → r .t140 ≡ x .t140 → r .red ≡ x .red → Admits (sourceExpected r) (x .source) → state r ≡ before P k
+      → Every (ReadBack ours x) ws → Every (From x) ws → Packets R small first f f-rises k ws → OneEach r (map (λ w. w .packet) ws) (map primaryOf ws)
   unfolding stepOf
-  all-accepted [] r a b h back from = refl
-  all-accepted (w ∷ ws) r a b h back from =
+  one-each [] k r a b h at back from is = none r
+  one-each (w ∷ ws) k r a b h at back from is =
       let p = w .packet in
       let c = w .content in
       let q : readBy r p ≡ holds c = read-by x p c (back .0 .read) r a b h in
+      let sends : packetOf c ≡ sent (senderOf P) k = is-sent P k c (is .0) in
       let r₁ = stepRead r p (readBy r p) .receiver in
       let types = keeps-types r p (readBy r p) in
       let on : Admits (sourceExpected r₁) (x .source) = subst (λ (y : Read). Admits (sourceExpected (stepRead r p y .receiver)) (x .source)) (sym q) (admits-on r p c (x .source) (from .0) h) in
-      ap (λ (t : Bool). cond t (p ∷ []) [] ++ acceptedOf stepOf r₁ (map (λ v. v .packet) ws)) (back .0 .accepted r a b h)
-      ∙ ap (λ (l : List (List ℕ)). p ∷ l) (all-accepted ws r₁ (types .0 ∙ a) (types .1 ∙ b) on (back .1) (from .1))
+      let next : state r₁ ≡ before P (suc k) =
+      ap (λ (y : Read). state (stepRead r p y .receiver)) q ∙ step-after r p c q ∙ ap₂ {C = core.Receiver} core.after at sends ∙ after-own P k in
+      one r p (primaryOf w)
+      (ap (λ (y : Read). entriesOf r p (stepRead r p y .answer)) q
+      ∙ step-adds r p c q
+      ∙ ap₂ {C = List Entry} core.adds at sends
+      ∙ adds-own P k
+      ∙ ap (λ (y : List ℕ). block y ∷ []) (sym (is .0 .primary)))
+      (one-each ws (suc k) r₁ (types .0 ∙ a) (types .1 ∙ b) on next (back .1) (from .1) (is .1))
 
-  module _ (ws : List Written) (latest : ℕ) (keeps : KeepsRules (x .t140) (x .red) (rulesOf x ws latest) (packetAt ws))
-      (back : Every (ReadBack ours x) ws) (from : Every (From x) ws) where
-    abbrev r : Receiver
-    r = freshReceiver (x .t140) (x .red)
-
-    accepted : acceptedOf stepOf r (map (λ w. w .packet) ws) ≡ map (λ w. w .packet) ws
-    accepted = all-accepted ws r refl refl tt back from
-
-    pub arrived : Arrives ours r ws
-    arrived = record {
-      accepted = accepted;
-      record-is =
-          core-record (x .t140) (x .red) (rulesOf x ws latest) (packetAt ws) keeps (map (λ w. w .packet) ws) (range 0 (length ws))
-          (accepted ∙ sym (map-range-all [] (map (λ w. w .packet) ws) (length ws) (length-map ws (λ w. w .packet))))
-          ∙ in-order (rulesOf x ws latest) (length ws)
-          ∙ sym (map-map block (rulesOf x ws latest .block) (range 0 (length ws)))
-          ∙ ap (map block) (map-range-all [] (map primaryOf ws) (length ws) (length-map ws primaryOf));
-    }
+-- from a fresh sender on
+pub all-arrive : (x : Settings) (calls : List Call) → settingsNumber x ≡ 0
+    → OneEach (freshReceiver (x .t140) (x .red)) (map (λ w. w .packet) (written ours (fresh x) calls)) (map primaryOf (written ours (fresh x) calls))
+all-arrive x calls good =
+    one-each x _ (small x calls good) _ _ (log-rises x calls good) (written ours (fresh x) calls) 0 (freshReceiver (x .t140) (x .red)) refl refl tt refl
+    (good-back x calls (fresh x) refl (fresh-good x)) (all-from x calls (fresh x) refl) (packets x calls good)

@@ -1,6 +1,6 @@
 -- Demand 3, whole.
 use Prim.Native.Nat.{ℕ}
-use mathlib.Core.Path.{_≡_, _∙_, refl, sym, subst}
+use mathlib.Core.Path.{_≡_, sym, subst}
 use mathlib.Core.List.{List, map}
 use mathlib.Core.Bool.{false}
 use Rattle.packet_spec.specs.Header.{typesBad}
@@ -10,21 +10,19 @@ use Rattle.receiver_spec.specs.Opening.{Receiver, freshReceiver, openingOf}
 use Rattle.receiver_spec.specs.Step.{stepOf}
 use Rattle.receiver_spec.specs.Record.{recordOf, acceptedOf}
 use Rattle.sender_spec.specs.State.{Settings, Sender, fresh}
-use Rattle.sender_spec.specs.Settings.{settingsNumber}
 use Rattle.sender_spec.specs.Opening as sender
 use Rattle.demands.specs.Line.{ours}
 use Rattle.demands.specs.Rules.{KeepsRules}
-use Rattle.demands.specs.Sending.{Call, written, finally, sentBy, leftBy}
-use Rattle.demands.specs.Demand3.{rulesOf, packetAt, SpacedAfter, Arrives, Demand3}
+use Rattle.demands.specs.Sending.{Call, primaryOf, written, finally, sentBy, leftBy}
+use Rattle.demands.specs.Demand3.{rulesOf, packetAt, SpacedAfter, Demand3}
+use Rattle.receiver_spec.proofs.OneEach.{OneEach, all-accepted, no-mark}
 use Rattle.receiver_spec.proofs.TextGiven.{text-is-blocks}
 use Rattle.sender_spec.proofs.Accepted.{open-passed}
-use Rattle.sender_spec.proofs.Good.{fresh-good}
 use Rattle.sender_spec.proofs.Passed.{settings-good}
 use Rattle.demands.proofs.Demand1.{receiver-opened}
-use Rattle.demands.proofs.Demand2.{good-back}
 use Rattle.demands.proofs.Recorded.{recorded}
 use Rattle.demands.proofs.OursKeeps.{keeps, spaced}
-use Rattle.demands.proofs.Arrives.{all-from, arrived}
+use Rattle.demands.proofs.Arrives.{all-arrive}
 
 module _ (x : Settings) (calls : List Call) (o : sender.openingOf x .number ≡ 0) where
   -- what holds from a fresh sender on holds from the opening on
@@ -47,12 +45,12 @@ module _ (x : Settings) (calls : List Call) (o : sender.openingOf x .number ≡ 
       → recordOf stepOf (openingOf (x .t140) (x .red) .receiver) given ≡ expected (senderOf (rulesOf x (sentBy ours x calls) (leftBy ours x calls .clock))) ks
   ours-recorded = recorded (x .t140) (x .red) _ _ ours-keeps opens
 
-  arrives : Arrives ours (openingOf (x .t140) (x .red) .receiver) (sentBy ours x calls)
-  arrives =
-      let g = open-passed x o .0 in
-      subst (λ (r : Receiver). Arrives ours r (sentBy ours x calls)) (sym (receiver-opened (x .t140) (x .red) opens))
-      (from-fresh (λ (s : Sender). Arrives ours (freshReceiver (x .t140) (x .red)) (written ours s calls))
-      (arrived x (written ours (fresh x) calls) _ (keeps x calls g) (good-back x calls (fresh x) refl (fresh-good x)) (all-from x calls (fresh x) refl)))
+  -- given once each and in order, its packets add their primaries, one each
+  pub ours-arrive : OneEach (openingOf (x .t140) (x .red) .receiver) (map (λ w. w .packet) (sentBy ours x calls)) (map primaryOf (sentBy ours x calls))
+  ours-arrive =
+      subst (λ (r : Receiver). OneEach r (map (λ w. w .packet) (sentBy ours x calls)) (map primaryOf (sentBy ours x calls))) (sym (receiver-opened (x .t140) (x .red) opens))
+      (from-fresh (λ (s : Sender). OneEach (freshReceiver (x .t140) (x .red)) (map (λ w. w .packet) (written ours s calls)) (map primaryOf (written ours s calls)))
+      (all-arrive x calls (open-passed x o .0)))
 
 pub demand-3 : Demand3 ours
 demand-3 = record {
@@ -60,5 +58,5 @@ demand-3 = record {
   text = text-is-blocks;
   keeps = ours-keeps;
   spaced = λ x calls o. from-fresh x calls o (λ (s : Sender). SpacedAfter false 0 (x .buffering) (written ours s calls)) (spaced calls (fresh x));
-  arrives = arrives;
+  arrives = λ x calls o. record { accepted = all-accepted (ours-arrive x calls o); record-is = no-mark (ours-arrive x calls o) };
 }

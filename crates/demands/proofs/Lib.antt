@@ -9,3 +9,4 @@ pub mod Demand3
 pub mod LineTests
 pub mod ImpostorReceivers
 pub mod ImpostorSenders
+pub mod Printed

@@ -78,20 +78,20 @@ back-at x (w ∷ ws) zero d h l = h .0 .read Any tt
 back-at x (w ∷ ws) (suc k) d h l = back-at x ws k d (h .1) (omega arith)
 
 module _ (x : Settings) (calls : List Call) (good : settingsNumber x ≡ 0) where
-  abbrev ws : List Written
+  abbrev pub ws : List Written
   ws = written ours (fresh x) calls
 
   -- past the last packet the log has empty blocks at the last clock
-  abbrev beyond : Block
+  abbrev pub beyond : Block
   beyond = record { text = []; at = finally ours (fresh x) calls .clock }
 
-  abbrev log : ℕ → Block
+  abbrev pub log : ℕ → Block
   log = logFrom (fresh x) calls beyond
 
-  log-rises : (k : ℕ) → log k .at ≤ log (suc k) .at
+  pub log-rises : (k : ℕ) → log k .at ≤ log (suc k) .at
   log-rises = rises calls (fresh x) beyond (le-refl (beyond .at))
 
-  small : x .level ≤ level
+  pub small : x .level ≤ level
   small = settings-good x good .0
 
   types : typesBad (x .t140) (x .red) ≡ false
@@ -103,7 +103,7 @@ module _ (x : Settings) (calls : List Call) (good : settingsNumber x ≡ 0) wher
   start : At (x .level) small (x .sequence) log log-rises (fresh x) 0
   start = record { level-is = refl; next-is = ap wrapped (sym (add-zero (x .sequence))); kept-is = refl }
 
-  packets : Packets (x .level) small (x .sequence) log log-rises 0 ws
+  pub packets : Packets (x .level) small (x .sequence) log log-rises 0 ws
   packets = follow (x .level) small (x .sequence) log log-rises calls (fresh x) 0 beyond start (λ i. ap log (zero-add i))
 
   reads : (k : ℕ) (c : Content) → reading level Any (x .t140) (x .red) (packetAt ws k) ≡ holds c → IsPacket ours-rules k c

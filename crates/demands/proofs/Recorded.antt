@@ -17,23 +17,17 @@ use Rattle.receiver_spec.proofs.Core.{packetOf, same-record, same-packets}
 use Rattle.demands.proofs.Demand1.{receiver-opened}
 
 -- a packet by the rules is the one that delivery's sender sends
-is-sent : (rules : Rules) (k : ℕ) (c : Content) → IsPacket rules k c → packetOf c ≡ sent (senderOf rules) k
+pub is-sent : (rules : Rules) (k : ℕ) (c : Content) → IsPacket rules k c → packetOf c ≡ sent (senderOf rules) k
 is-sent rules k c w = λ i. record { sequence = w .sequence i; older = w .older i; primary = w .primary i }
 
 module _ (t140 red : ℕ) (rules : Rules) (packet : ℕ → List ℕ) (keeps : KeepsRules t140 red rules packet) where
-  -- the core's record of the packets that a fresh receiver accepts
-  pub core-record : (given : List (List ℕ)) (ks : List ℕ) → acceptedOf stepOf (freshReceiver t140 red) given ≡ map packet ks
-      → recordOf stepOf (freshReceiver t140 red) given ≡ core.recordFrom core.fresh (map (sent (senderOf rules)) ks)
-  core-record given ks e =
-      let r = freshReceiver t140 red in
-      same-record given r
-      ∙ ap (core.recordFrom core.fresh) (same-packets t140 red (senderOf rules) packet (λ k c q. is-sent rules k c (keeps .reads k c q)) given r refl refl ks e)
-
   pub recorded : openingOf t140 red .number ≡ 0
       → (given : List (List ℕ)) (ks : List ℕ) → acceptedOf stepOf (openingOf t140 red .receiver) given ≡ map packet ks → Near (senderOf rules) ks
       → recordOf stepOf (openingOf t140 red .receiver) given ≡ expected (senderOf rules) ks
   recorded o given ks e near =
-      let f : openingOf t140 red .receiver ≡ freshReceiver t140 red = receiver-opened t140 red o in
+      let r = freshReceiver t140 red in
+      let f : openingOf t140 red .receiver ≡ r = receiver-opened t140 red o in
       ap (λ (x : Receiver). recordOf stepOf x given) f
-      ∙ core-record given ks (sym (ap (λ (x : Receiver). acceptedOf stepOf x given) f) ∙ e)
+      ∙ same-record given r
+      ∙ ap (core.recordFrom core.fresh) (same-packets t140 red (senderOf rules) packet (λ k c q. is-sent rules k c (keeps .reads k c q)) given r refl refl ks (sym (ap (λ (x : Receiver). acceptedOf stepOf x given) f) ∙ e))
       ∙ delivered (senderOf rules) (senderOf-in-order rules (keeps .rises)) ks near

@@ -1,3 +1,4 @@
 pub mod Record
 pub mod CaseTests
 pub mod Short
+pub mod NoLoss

@@ -29,7 +29,7 @@ written-marks : (n : ℕ) → writtenRecord (replicate n mark) ≡ marks n
 written-marks zero = refl
 written-marks (suc n) = ap (λ (l : List ℕ). markBytes ++ l) (written-marks n)
 
-written-blocks : (bs : List (List ℕ)) → writtenRecord (map block bs) ≡ joined bs
+pub written-blocks : (bs : List (List ℕ)) → writtenRecord (map block bs) ≡ joined bs
 written-blocks [] = refl
 written-blocks (b ∷ bs) = ap (λ (l : List ℕ). b ++ l) (written-blocks bs)
 

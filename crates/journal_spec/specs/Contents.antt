@@ -14,6 +14,14 @@ pub data Contents : Type 0 where
   ends : Contents
   breaks : Contents
 
+-- a whole journal of these packets
+abbrev pub packetsThenEnd : List (List ℕ) → Contents
+packetsThenEnd [] = ends
+packetsThenEnd (p ∷ ps) = packet p (packetsThenEnd ps)
+
+abbrev pub wholeOf : ℕ → ℕ → List (List ℕ) → Contents
+wholeOf t140 red ps = opens t140 red (packetsThenEnd ps)
+
 -- how far the records are: before the open, between packets, or within one, of this length and with these bytes of pieces
 pub data Stage : Type 0 where
   unopened : Stage

@@ -32,7 +32,7 @@ abbrev packets : Receiver → List (List ℕ) → List core.Packet
 packets r [] = []
 packets r (p ∷ ps) = packetsRead (readBy r p) ++ packets (stepOf r p .receiver) ps
 
-abbrev state : Receiver → core.Receiver
+abbrev pub state : Receiver → core.Receiver
 state r = cond (r .hasSource) (core.expects (r .expected)) core.fresh
 
 -- one step: what it adds to the record, and the receiver after it
@@ -72,14 +72,21 @@ after-state : (h : Bool) (x : ℕ) (k : core.Packet)
 after-state true x k = refl
 after-state false x k = refl
 
+module _ (r : Receiver) (p : List ℕ) (c : Content) (e : readBy r p ≡ holds c) where
+  abbrev d : ℕ
+  d = distance (c .sequence) (r .expected)
+
+  pub step-adds : entriesOf r p (stepRead r p (holds c) .answer) ≡ core.adds (state r) (packetOf c)
+  step-adds = adds-is r p c e (r .hasSource) (courseOf d) d ∙ adds-state (r .hasSource) (r .expected) (packetOf c)
+
+  pub step-after : state (stepRead r p (holds c) .receiver) ≡ core.after (state r) (packetOf c)
+  step-after = after-is r p c e (r .hasSource) (courseOf d) d ∙ after-state (r .hasSource) (r .expected) (packetOf c)
+
 one-step : (r : Receiver) (p : List ℕ) (rest : List core.Packet) (x : Read) → readBy r p ≡ x
     → entriesOf r p (stepRead r p x .answer) ++ core.recordFrom (state (stepRead r p x .receiver)) rest ≡ core.recordFrom (state r) (packetsRead x ++ rest)
 one-step r p rest (refused n) e = refl
 one-step r p rest (holds c) e =
-    let d = distance (c .sequence) (r .expected) in
-    ap₂ {C = List Entry} (λ a b. a ++ b)
-    (adds-is r p c e (r .hasSource) (courseOf d) d ∙ adds-state (r .hasSource) (r .expected) (packetOf c))
-    (ap (λ (t : core.Receiver). core.recordFrom t rest) (after-is r p c e (r .hasSource) (courseOf d) d ∙ after-state (r .hasSource) (r .expected) (packetOf c)))
+    ap₂ {C = List Entry} (λ a b. a ++ b) (step-adds r p c e) (ap (λ (t : core.Receiver). core.recordFrom t rest) (step-after r p c e))
 
 pub same-record : (ps : List (List ℕ)) (r : Receiver) → recordOf stepOf r ps ≡ core.recordFrom (state r) (packets r ps)
 unfolding stepOf

@@ -3,3 +3,4 @@ pub mod TextGiven
 pub mod Within
 pub mod Core
 pub mod MarkTests
+pub mod OneEach

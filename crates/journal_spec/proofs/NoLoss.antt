@@ -1,0 +1,61 @@
+-- The transcript of a whole journal whose packets each add one block to the record: the blocks, and no loss.
+use Prim.Native.Nat.{ℕ, zero, suc, _+_}
+use mathlib.Core.Path.{_≡_, _∙_, refl, ap, ap₂, sym}
+use mathlib.Core.List.{List, [], _∷_, _++_, map, head-eq-of-cons-eq}
+use mathlib.Core.Bool.{Bool, true, cond}
+use native.Mathlib.Omega.{arith}
+use lib.ListN.{length}
+use Rattle.packet_spec.specs.Redundancy.{joined}
+use Rattle.delivery.specs.Record.{block, entries}
+use Rattle.receiver_spec.specs.Opening.{Receiver, openingOf}
+use Rattle.receiver_spec.specs.Step.{Answered, refuses, isLate, gives, stepOf}
+use Rattle.receiver_spec.specs.Record.{blocksGiven, entriesOf}
+use Rattle.journal_spec.specs.Contents.{packetsThenEnd, wholeOf, journalOf}
+use Rattle.journal_spec.specs.Lines.{countsLine, brokenLine}
+use Rattle.journal_spec.specs.Transcript.{packetsIn, isWhole, answersOf, textOf, isForward, isLateOne, isRefused, howMany, lostIn, lineFor, printed, transcript}
+use Rattle.delivery.proofs.Entries.{mark-is-no-block}
+use Rattle.receiver_spec.proofs.OneEach.{OneEach, none, one, no-mark}
+use Rattle.journal_spec.proofs.Record.{writtenRecord, written-blocks, text-is-record}
+
+packets-are : (ps : List (List ℕ)) → packetsIn (packetsThenEnd ps) ≡ ps
+packets-are [] = refl
+packets-are (p ∷ ps) = ap (λ (l : List (List ℕ)). p ∷ l) (packets-are ps)
+
+is-whole : (ps : List (List ℕ)) → isWhole (packetsThenEnd ps) ≡ true
+is-whole [] = refl
+is-whole (p ∷ ps) = is-whole ps
+
+-- answers of so many forward packets, without a loss
+pub record Forward (answers : List Answered) (n : ℕ) : Type 0 where
+  pub packets : howMany isForward answers ≡ n
+  pub late : howMany isLateOne answers ≡ 0
+  pub lost : lostIn answers ≡ 0
+  pub refused : howMany isRefused answers ≡ 0
+
+one-more : (r : Receiver) (p b : List ℕ) (a : Answered) (answers : List Answered) (n : ℕ) → entriesOf r p a ≡ block b ∷ [] → Forward answers n → Forward (a ∷ answers) (suc n)
+one-more r p b (refuses m) answers n e f = absurd (let z : _≡_ {A = ℕ} 0 1 = ap length e in omega arith)
+one-more r p b (isLate m) answers n e f = absurd (let z : _≡_ {A = ℕ} 0 1 = ap length e in omega arith)
+one-more r p b (gives g) answers n e f = go (g .loss) refl
+  where
+    go : (m : ℕ) → g .loss ≡ m → Forward (gives g ∷ answers) (suc n)
+    go zero q = record { packets = omega (arith, f .packets); late = omega (arith, f .late); lost = omega (arith, f .lost, q); refused = omega (arith, f .refused) }
+    go (suc m) q =
+        let h : entries (suc m) (blocksGiven r p (gives g)) ≡ block b ∷ [] = ap (λ (k : ℕ). entries k (blocksGiven r p (gives g))) (sym q) ∙ e in
+        absurd (mark-is-no-block b (head-eq-of-cons-eq h))
+
+forward : {r : Receiver} {ps bs : List (List ℕ)} → OneEach r ps bs → Forward (answersOf r ps) (length ps)
+forward (none r) = record { packets = refl; late = refl; lost = refl; refused = refl }
+forward (one r p b e rest) = one-more r p b (stepOf r p .answer) _ _ e (forward rest)
+
+pub prints-each : (t140 red : ℕ) {ps bs : List (List ℕ)} (j : List ℕ) → journalOf j ≡ wholeOf t140 red ps → OneEach (openingOf t140 red .receiver) ps bs
+    → transcript j ≡ joined bs ++ countsLine (length ps) 0 0 0
+unfolding transcript
+prints-each t140 red {ps} {bs} j e each =
+    let r = openingOf t140 red .receiver in
+    let f = forward each in
+    ap printed e
+    ∙ ap₂ {C = List ℕ} (λ (l : List (List ℕ)) (w : Bool). textOf r l ++ cond w (lineFor (answersOf r l)) brokenLine) (packets-are ps) (is-whole ps)
+    ∙ ap₂ {C = List ℕ} (λ (x y : List ℕ). x ++ y)
+    (text-is-record r ps ∙ ap writtenRecord (no-mark each) ∙ written-blocks bs)
+    (ap₂ {C = List ℕ} (λ (n k : ℕ). countsLine n k (lostIn (answersOf r ps)) (howMany isRefused (answersOf r ps))) (f .packets) (f .late)
+    ∙ ap₂ {C = List ℕ} (λ (n k : ℕ). countsLine (length ps) 0 n k) (f .lost) (f .refused))
