@@ -3,14 +3,13 @@
 ghost use mathlib.Core.Path.{_≡_};
 ghost use Rattle.text_spec.specs.Utf8.{textOf};
 ghost use Rattle.packet.specs.Refusal.{outcomeNumber};
-ghost use Rattle.packet.specs.Places.{sourceOf, numbered, readOf};
+ghost use Rattle.packet.specs.Places.{sourceOf};
 ghost use Rattle.receiver_spec.specs.Step.{stepOf};
 ghost use Rattle.receiver.specs.View.{receiverOf, answered, advanced};
 ghost use Rattle.boundary.specs.Answers.{expectedOf, textAnswer};
 ghost use Rattle.boundary.specs.Receiving.{bit, flag, heldIn, recordOf, wasRefused, wasLate, stepNumber, stepRecord};
 use packet::Expected;
 use packet::Outcome;
-use packet::Reading;
 use receiver::Advanced;
 use receiver::Answer;
 use receiver::Receiver;
@@ -26,21 +25,14 @@ pub fn number_of(outcome: Outcome) -> u8
     }
 }
 
-fn expected_of(expects: u8, source: u32) -> Expected
+// The source that a packet must have: any where `expects` is 0, else `source`.
+pub fn expected_of(expects: u8, source: u32) -> Expected
     ensures { λ r. ⌜ sourceOf r ≡ expectedOf expects source ⌝ }
 {
     if expects == 0 {
         return Expected::Any;
     }
     Expected::Only(source)
-}
-
-// Reads a packet of any source where `expects` is 0, else of `source`.
-pub fn read(expects: u8, source: u32, t140: u8, red: u8, packet: &[u8]) -> Reading
-    ensures { λ r. ⌜ numbered r ≡ readOf (expectedOf expects source) t140 red (now (packet .entry)) ⌝ }
-{
-    let expected = expected_of(expects, source);
-    reader::read_from(expected, t140, red, packet)
 }
 
 // What bytes are as UTF-8: text of so many characters, or not, and then the place of the first byte at which they can no

@@ -22,7 +22,8 @@ pub extern "C" fn stewpigeon_read(
 ) -> u8
     ensures { λ r. ⌜ (r ≡ readOf (expectedOf expects source) t140 red (now (packet .entry)) .number) × (now (answer .exit) ≡ packetBehind (readOf (expectedOf expects source) t140 red (now (packet .entry))) (now (answer .entry))) ⌝ }
 {
-    let reading = boundary::read(expects, source, t140, red, packet);
+    let expected = boundary::expected_of(expects, source);
+    let reading = reader::read_from(expected, t140, red, packet);
     let outcome = reading.outcome;
     let number = boundary::number_of(outcome);
     if outcome.is_refused() {

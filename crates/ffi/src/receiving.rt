@@ -29,7 +29,8 @@ pub extern "C" fn stewpigeon_receiver_step(
 ) -> u8
     ensures { λ r. ⌜ (r ≡ stepNumber (stepOf (heldIn (now (receiver .entry))) (now (packet .entry)) .answer)) × (now (receiver .exit) ≡ recordBehind (stepOf (heldIn (now (receiver .entry))) (now (packet .entry))) (now (receiver .entry))) × (now (step .exit) ≡ stepBehind (stepOf (heldIn (now (receiver .entry))) (now (packet .entry)) .answer) (now (step .entry))) ⌝ }
 {
-    let advanced = boundary::advance(*receiver, packet);
+    let lent = *receiver;
+    let advanced = boundary::advance(lent, packet);
     let answer = advanced.answer;
     let number = boundary::number_of_step(answer);
     if boundary::is_refused(answer) {

@@ -19,7 +19,7 @@ use ghost.Atoms.{Atoms}
 use contract.Monad.{Fun}
 use contract.Running.{givenOf, tables, tablesOf}
 use types.Kit.{Given, ‵, raw, _⊛_, ⋆, _$_, _∵_, !, qed, by, move, keep, drop, use0, use1, use2, split, join, fsplit, fsplit3, fjoin, fjoin3, feqI, suffices, frame, done}
-use types.Run.{look, look-raw, store, store-raw, init, stop, hop, fld, from, load, of-opd, and-then, no-more, assigns, land, returns, returns-within, enter, alloc1, alloc0, params1, pass1, pass0, free0}
+use types.Run.{look, look-raw, store-raw, init, stop, hop, fld, from, load, of-opd, and-then, no-more, assigns, land, returns, returns-within, enter, alloc1, alloc0, params1, pass1, pass0, free0}
 use types.Part.{whole, sub, look-in}
 use types.SemTy.{Body}
 use sound.WpLaws.{FmC, fmOf, WpFn-mono}
@@ -203,15 +203,15 @@ module _ {M : Type 1} (𝓤 : URA M) (H : Heap 𝓤) (A : Atoms 𝓤) (W : Given
         move ! (4 ∷ 5 ∷ 9 ∷ 0 ∷ 1 ∷ 6 ∷ 3 ∷ 8 ∷ []) $
         -- [the receiver's obs, borrow and token; the step's; the packet; its token; true; true]
         enter ! C Λ code.function (vptr b o ∷ v ∷ vptr b₂ o₂ ∷ []) _ $
-        alloc1 ! (λ l₀. alloc1 ! (λ l₁. alloc1 ! (λ l₂. alloc1 ! (λ l₃. alloc1 ! (λ l₄. alloc1 ! (λ l₅. alloc1 ! (λ l₆. alloc1 ! (λ l₇. alloc1 ! (λ l₈. alloc1 ! (λ l₉. alloc1 ! (λ l₁₀. alloc0 ! $ params1 ! $
-        pass1 ! (init ! 18 refl (tt, tt)) $ pass1 ! (init ! 16 refl (shr-slice-lawful 𝓤 H A W (named 1) κ₁ u8 .typed s (v ∷ []) p .0)) $ pass1 ! (init ! 14 refl (tt, tt)) $ pass0 ! $
-        move ! (22 ∷ 23 ∷ 24 ∷ []) $ opens-whole records ! tt h b o (λ was.
-        -- [the receiver's cell; the open borrow; obs; auth; _10; …; _0; …; the step's obs, borrow and token; the packet; its token; true; true]
-        assigns ! (of-opd ! (load ! (from ! (hop ! (look ! 22 refl) (stop !))) (look-raw ! 0 refl))) (from ! (stop !)) (init ! 10 refl (records .typed 𝓤 H A W h was)) $
-        move ! (29 ∷ []) $ use1 W (‵ Bytes ⊛ ‵ Bytes) (shr-slice-copy 𝓤 H A W (named 1) κ₁ u8 .twice s (v ∷ [])) $ split ! $ move ! (0 ∷ 31 ∷ []) $ use2 W (raw (Advance 𝓤 H A mem′ run .pre to-advance)) (goes-advance was) $
-        calls-at ! fm (Advance 𝓤 H A mem′ run) known-advance to-advance (and-then ! (copied ! 12 refl) (and-then ! (copied ! 22 refl) (no-more !))) (λ w.
+        alloc1 ! (λ l₀. alloc1 ! (λ l₁. alloc1 ! (λ l₂. alloc1 ! (λ l₃. alloc1 ! (λ l₄. alloc1 ! (λ l₅. alloc1 ! (λ l₆. alloc1 ! (λ l₇. alloc1 ! (λ l₈. alloc1 ! (λ l₉. alloc1 ! (λ l₁₀. alloc1 ! (λ l₁₁. alloc0 ! $ params1 ! $
+        pass1 ! (init ! 20 refl (tt, tt)) $ pass1 ! (init ! 18 refl (shr-slice-lawful 𝓤 H A W (named 1) κ₁ u8 .typed s (v ∷ []) p .0)) $ pass1 ! (init ! 16 refl (tt, tt)) $ pass0 ! $
+        move ! (24 ∷ 25 ∷ 26 ∷ []) $ opens-whole records ! tt h b o (λ was.
+        -- [the receiver's cell; the open borrow; obs; auth; _11; …; _0; …; the step's obs, borrow and token; the packet; its token; true; true]
+        assigns ! (of-opd ! (load ! (from ! (hop ! (look ! 24 refl) (stop !))) (look-raw ! 0 refl))) (from ! (stop !)) (init ! 18 refl (records .typed 𝓤 H A W h was)) $
+        move ! (31 ∷ []) $ use1 W (‵ Bytes ⊛ ‵ Bytes) (shr-slice-copy 𝓤 H A W (named 1) κ₁ u8 .twice s (v ∷ [])) $ split ! $ move ! (0 ∷ 33 ∷ []) $ use2 W (raw (Advance 𝓤 H A mem′ run .pre to-advance)) (goes-advance was) $
+        calls-at ! fm (Advance 𝓤 H A mem′ run) known-advance to-advance (and-then ! (copied ! 20 refl) (and-then ! (copied ! 24 refl) (no-more !))) (λ w.
         returned advances ! (‵ (flft κ₁ q₁) ⊛ ‵ ftrue) (lasts advance.ended (κ₁, tt) (h, (s, tt))) (λ r _. advanced r ≡ stepOf (heldIn h) (s .now)) (id⊢ 𝓤 _) (λ r _ e is. drop ! $
-        -- [the packet's token; the packet; the receiver's cell; the open borrow; obs; auth; _10; …; _0; …; the step's obs, borrow and token; true; true]
+        -- [the packet's token; the packet; the receiver's cell; the open borrow; obs; auth; _11; …; _0; …; the step's obs, borrow and token; true; true]
         land ! (from ! (stop !)) (init ! 18 refl (advances .typed 𝓤 H A W r is)) $
         assigns ! (of-opd ! (load ! (from ! (fld ! refl (stop !))) (look-in ! 18 (sub ! 1 refl (whole !))))) (from ! (stop !)) (init ! 16 refl (answers .typed 𝓤 H A W (r .answer) (known-answer r is))) $
         use0 W (raw (NumberOfStep 𝓤 H A mem′ run .pre (to-number (r .answer)))) (goes-number (r .answer) (known-answer r is)) $
@@ -221,47 +221,47 @@ module _ {M : Type 1} (𝓤 : URA M) (H : Heap 𝓤) (A : Atoms 𝓤) (W : Given
         use0 W (raw (IsRefused 𝓤 H A mem′ run .pre (to-refused (r .answer)))) (goes-refused (r .answer) (known-answer r is)) $
         calls-at ! fm (IsRefused 𝓤 H A mem′ run) known-is-refused (to-refused (r .answer)) (and-then ! (copied ! 17 refl) (no-more !)) (λ w₂.
         returned bools ! (‵ ftrue) (lasts is-refused.ended tt (r .answer, tt)) (λ y _. y ≡ wasRefused (answered (r .answer))) (id⊢ 𝓤 _) (λ y _ ey isy. drop ! $ drop ! $
-        land ! (from ! (stop !)) (init ! 10 refl (bools .typed 𝓤 H A W y isy)) $
-        leaves-if ! (copied ! 10 refl) (λ held.
+        land ! (from ! (stop !)) (init ! 12 refl (bools .typed 𝓤 H A W y isy)) $
+        leaves-if ! (copied ! 12 refl) (λ held.
         -- refused: nothing is stored
         move ! (2 ∷ 3 ∷ 4 ∷ 5 ∷ []) $ closes-whole records ! tt h b o was $
-        -- [the receiver's obs, borrow and token; the packet's token; the packet; _10; …; _0; …; the step's obs, borrow and token; true; true]
-        assigns ! (of-opd ! (copied ! 13 refl)) (from ! (stop !)) (init ! 25 refl (of-uint w8 .typed 𝓤 H A W k isk)) $
-        returns-within ! Post refl (look ! 25 refl) $ freed ! 25 refl refl $ freed ! 23 refl refl $ freed ! 21 refl refl $ freed ! 19 refl refl $ freed ! 17 refl refl $ freed ! 15 refl refl $ freed ! 13 refl refl $ freed ! 11 refl refl $ freed ! 9 refl refl $ unused ! 7 refl refl $ unused ! 5 refl refl $ free0 ! $
+        -- [the receiver's obs, borrow and token; the packet's token; the packet; _11; …; _0; …; the step's obs, borrow and token; true; true]
+        assigns ! (of-opd ! (copied ! 13 refl)) (from ! (stop !)) (init ! 27 refl (of-uint w8 .typed 𝓤 H A W k isk)) $
+        returns-within ! Post refl (look ! 27 refl) $ freed ! 27 refl refl $ freed ! 25 refl refl $ freed ! 23 refl refl $ freed ! 21 refl refl $ freed ! 19 refl refl $ freed ! 17 refl refl $ freed ! 15 refl refl $ freed ! 13 refl refl $ freed ! 11 refl refl $ unused ! 9 refl refl $ unused ! 7 refl refl $ unused ! 5 refl refl $ free0 ! $
         keep ! (0 ∷ 1 ∷ 2 ∷ 3 ∷ 4 ∷ 5 ∷ 6 ∷ 7 ∷ []) $
         by ! (exits h z k (says-step h (s .now) z r e k h z ek (sym (refused-stays (receiverOf (r .receiver)) h (answered (r .answer)) (subst Holds ey held))) (sym (step-stays z (answered (r .answer)) (subst Holds ey held)))) isk))
         (λ failed.
         use0 W (raw (StepOf 𝓤 H A mem′ run .pre (to-step (r .answer)))) (goes-step (r .answer) (known-answer r is)) $
         calls-at ! fm (StepOf 𝓤 H A mem′ run) known-step-of (to-step (r .answer)) (and-then ! (copied ! 17 refl) (no-more !)) (λ w₃.
         returned steps ! (‵ ftrue) (lasts step-of.ended tt (r .answer, tt)) (λ t _. t ≡ stepRecord (answered (r .answer))) (id⊢ 𝓤 _) (λ t _ et ist. drop ! $ drop ! $
-        land ! (from ! (stop !)) (init ! 8 refl (steps .typed 𝓤 H A W t ist)) $
-        move ! (28 ∷ 29 ∷ 30 ∷ []) $ opens-whole steps ! tt z b₂ o₂ (λ _.
-        -- [the step's cell; the open borrow; obs; auth; the packet's token; the packet; the receiver's cell; the open borrow; obs; auth; _10; …; _0; …; true; true]
-        assigns ! (of-opd ! (copied ! 12 refl)) (from ! (hop ! (look ! 24 refl) (stop !))) (store-raw ! 0 refl (steps .typed 𝓤 H A W t ist)) $
+        land ! (from ! (stop !)) (init ! 10 refl (steps .typed 𝓤 H A W t ist)) $
+        move ! (30 ∷ 31 ∷ 32 ∷ []) $ opens-whole steps ! tt z b₂ o₂ (λ _.
+        -- [the step's cell; the open borrow; obs; auth; the packet's token; the packet; the receiver's cell; the open borrow; obs; auth; _11; …; _0; …; true; true]
+        assigns ! (of-opd ! (copied ! 14 refl)) (from ! (hop ! (look ! 26 refl) (stop !))) (store-raw ! 0 refl (steps .typed 𝓤 H A W t ist)) $
         closes-whole steps ! tt t b₂ o₂ ist $
-        -- [the step's obs, borrow and token; the packet's token; the packet; the receiver's cell; the open borrow; obs; auth; _10; …; _0; …; true; true]
+        -- [the step's obs, borrow and token; the packet's token; the packet; the receiver's cell; the open borrow; obs; auth; _11; …; _0; …; true; true]
         use0 W (raw (IsLate 𝓤 H A mem′ run .pre (to-late (r .answer)))) (goes-late (r .answer) (known-answer r is)) $
         calls-at ! fm (IsLate 𝓤 H A mem′ run) known-is-late (to-late (r .answer)) (and-then ! (copied ! 20 refl) (no-more !)) (λ w₄.
         returned bools ! (‵ ftrue) (lasts is-late.ended tt (r .answer, tt)) (λ y′ _. y′ ≡ wasLate (answered (r .answer))) (id⊢ 𝓤 _) (λ y′ _ ey′ isy′. drop ! $ drop ! $
-        land ! (from ! (stop !)) (init ! 9 refl (bools .typed 𝓤 H A W y′ isy′)) $
-        leaves-if ! (copied ! 9 refl) (λ behind.
+        land ! (from ! (stop !)) (init ! 11 refl (bools .typed 𝓤 H A W y′ isy′)) $
+        leaves-if ! (copied ! 11 refl) (λ behind.
         -- late: the receiver's record stays
         move ! (5 ∷ 6 ∷ 7 ∷ 8 ∷ []) $ closes-whole records ! tt h b o was $
-        -- [the receiver's obs, borrow and token; the step's; the packet's token; the packet; _10; …; _0; …; true; true]
-        assigns ! (of-opd ! (copied ! 16 refl)) (from ! (stop !)) (init ! 28 refl (of-uint w8 .typed 𝓤 H A W k isk)) $
-        returns-within ! Post refl (look ! 28 refl) $ freed ! 28 refl refl $ freed ! 26 refl refl $ freed ! 24 refl refl $ freed ! 22 refl refl $ freed ! 20 refl refl $ freed ! 18 refl refl $ freed ! 16 refl refl $ freed ! 14 refl refl $ freed ! 12 refl refl $ freed ! 10 refl refl $ freed ! 8 refl refl $ free0 ! $
+        -- [the receiver's obs, borrow and token; the step's; the packet's token; the packet; _11; …; _0; …; true; true]
+        assigns ! (of-opd ! (copied ! 16 refl)) (from ! (stop !)) (init ! 30 refl (of-uint w8 .typed 𝓤 H A W k isk)) $
+        returns-within ! Post refl (look ! 30 refl) $ freed ! 30 refl refl $ freed ! 28 refl refl $ freed ! 26 refl refl $ freed ! 24 refl refl $ freed ! 22 refl refl $ freed ! 20 refl refl $ freed ! 18 refl refl $ freed ! 16 refl refl $ freed ! 14 refl refl $ freed ! 12 refl refl $ freed ! 10 refl refl $ unused ! 8 refl refl $ free0 ! $
         keep ! (0 ∷ 1 ∷ 2 ∷ 6 ∷ 7 ∷ 3 ∷ 4 ∷ 5 ∷ []) $
         by ! (exits h t k (says-step h (s .now) z r e k h t ek (sym (late-stays (receiverOf (r .receiver)) h (answered (r .answer)) (subst Holds ey′ behind))) (et ∙ sym (step-told z (answered (r .answer)) (subst (λ (i : Bool). Holds (not i)) ey failed)))) isk))
         (λ onward.
         -- forward
         recorded ! mem′ run fm known-record-of (r .receiver) (known-receiver r is) (and-then ! (load ! (from ! (fld ! refl (stop !))) (look-in ! 22 (sub ! 0 refl (whole !)))) (no-more !)) (λ g eg isg.
-        land ! (from ! (stop !)) (store ! 15 refl (records .typed 𝓤 H A W g isg)) $
-        assigns ! (of-opd ! (copied ! 15 refl)) (from ! (hop ! (look ! 27 refl) (stop !))) (store-raw ! 5 refl (records .typed 𝓤 H A W g isg)) $
+        land ! (from ! (stop !)) (init ! 9 refl (records .typed 𝓤 H A W g isg)) $
+        assigns ! (of-opd ! (copied ! 9 refl)) (from ! (hop ! (look ! 29 refl) (stop !))) (store-raw ! 5 refl (records .typed 𝓤 H A W g isg)) $
         move ! (5 ∷ 6 ∷ 7 ∷ 8 ∷ []) $ closes-whole records ! tt g b o isg $
-        assigns ! (of-opd ! (copied ! 16 refl)) (from ! (stop !)) (init ! 28 refl (of-uint w8 .typed 𝓤 H A W k isk)) $
-        returns ! (look ! 28 refl) $ freed ! 28 refl refl $ freed ! 26 refl refl $ freed ! 24 refl refl $ freed ! 22 refl refl $ freed ! 20 refl refl $ freed ! 18 refl refl $ freed ! 16 refl refl $ freed ! 14 refl refl $ freed ! 12 refl refl $ freed ! 10 refl refl $ freed ! 8 refl refl $ free0 ! $
+        assigns ! (of-opd ! (copied ! 16 refl)) (from ! (stop !)) (init ! 30 refl (of-uint w8 .typed 𝓤 H A W k isk)) $
+        returns ! (look ! 30 refl) $ freed ! 30 refl refl $ freed ! 28 refl refl $ freed ! 26 refl refl $ freed ! 24 refl refl $ freed ! 22 refl refl $ freed ! 20 refl refl $ freed ! 18 refl refl $ freed ! 16 refl refl $ freed ! 14 refl refl $ freed ! 12 refl refl $ freed ! 10 refl refl $ freed ! 8 refl refl $ free0 ! $
         keep ! (0 ∷ 1 ∷ 2 ∷ 6 ∷ 7 ∷ 3 ∷ 4 ∷ 5 ∷ []) $
-        by ! (exits g t k (says-step h (s .now) z r e k g t ek (eg ∙ sym (moves-on (receiverOf (r .receiver)) h (answered (r .answer)) (subst (λ (i : Bool). Holds (not i)) ey failed) (subst (λ (i : Bool). Holds (not i)) ey′ onward))) (et ∙ sym (step-told z (answered (r .answer)) (subst (λ (i : Bool). Holds (not i)) ey failed)))) isk)))))))))))))))))))))))))))
+        by ! (exits g t k (says-step h (s .now) z r e k g t ek (eg ∙ sym (moves-on (receiverOf (r .receiver)) h (answered (r .answer)) (subst (λ (i : Bool). Holds (not i)) ey failed) (subst (λ (i : Bool). Holds (not i)) ey′ onward))) (et ∙ sym (step-told z (answered (r .answer)) (subst (λ (i : Bool). Holds (not i)) ey failed)))) isk))))))))))))))))))))))))))))
 
 meets : {M : Type 1} (𝓤 : URA M) (H : Heap 𝓤) (A : Atoms 𝓤) (W : Given 𝓤 H A) (mem′ : Memory → SProp 𝓤) (run : Routine → Fun 𝓤) (𝓣 : Tables 𝓤 H) → Triple 𝓤 (𝓣 .C #boundary·advance) (Advance 𝓤 H A mem′ run) → Triple 𝓤 (𝓣 .C #boundary·number-of-step) (NumberOfStep 𝓤 H A mem′ run) → Triple 𝓤 (𝓣 .C #boundary·is-refused) (IsRefused 𝓤 H A mem′ run) → Triple 𝓤 (𝓣 .C #boundary·is-late) (IsLate 𝓤 H A mem′ run) → Triple 𝓤 (𝓣 .C #boundary·step-of) (StepOf 𝓤 H A mem′ run) → Triple 𝓤 (𝓣 .C #boundary·record-of) (RecordOf 𝓤 H A mem′ run)
     → Meets 𝓤 H A this.signature (WpFn 𝓤 H (𝓣 .C) (𝓣 .Λ) code.function) (this.spec 𝓤 H A mem′ run)
