@@ -1,8 +1,38 @@
--- What the exported step says: its number, and the record lent to it.
+-- What the exported step says: its number, and the two records lent to it.
 use Prim.Native.Nat.{ℕ}
+use mathlib.Core.Bool.{Bool, true, false, cond, not}
+use lib.Dec.{eqb}
 use lib.IntN.{pos}
+use Rattle.receiver_spec.specs.Opening.{Receiver}
+use Rattle.receiver_spec.specs.Step as Stepping
 use Rattle.receiver_spec.specs.Step.{Answered, refuses, isLate, gives}
+use Rattle.boundary.specs.declared.ReceiverRecord.{ReceiverRecord}
 use Rattle.boundary.specs.declared.Step.{Step}
+
+-- any byte but 0 is true
+abbrev pub flag : ℕ → Bool
+flag n = not (eqb n 0)
+
+abbrev pub bit : Bool → ℕ
+bit true = 1
+bit false = 0
+
+-- the receiver that a record holds
+abbrev pub heldIn : ReceiverRecord → Receiver
+heldIn r = record { t140 = r .t140; red = r .red; hasSource = flag (r .«has_source»); source = r .source; expected = r .expected }
+
+abbrev pub recordOf : Receiver → ReceiverRecord
+recordOf r = record { t140 = r .t140; red = r .red; «has_source» = bit (r .hasSource); source = r .source; expected = r .expected }
+
+abbrev pub wasRefused : Answered → Bool
+wasRefused (refuses n) = true
+wasRefused (isLate z) = false
+wasRefused (gives g) = false
+
+abbrev pub wasLate : Answered → Bool
+wasLate (refuses n) = false
+wasLate (isLate z) = true
+wasLate (gives g) = false
 
 -- 0 where the packet is accepted, late or not
 abbrev pub stepNumber : Answered → ℕ
@@ -10,8 +40,23 @@ stepNumber (refuses n) = n
 stepNumber (isLate z) = 0
 stepNumber (gives g) = 0
 
--- all zeros on a refusal; a late packet has its distance alone
+-- a late packet has its distance alone; a refused one has nothing to tell
 abbrev pub stepRecord : Answered → Step
 stepRecord (refuses n) = record { late = 0; loss = 0; distance = pos 0; older = 0; given = 0; from = 0; to = 0 }
 stepRecord (isLate z) = record { late = 1; loss = 0; distance = z; older = 0; given = 0; from = 0; to = 0 }
 stepRecord (gives g) = record { late = 0; loss = g .loss; distance = g .distance; older = g .older; given = g .given; from = g .from; to = g .to }
+
+-- the step's record behind a call: as it was, where the packet is refused
+abbrev pub stepBehind : Answered → Step → Step
+stepBehind (refuses n) before = before
+stepBehind (isLate z) before = stepRecord (isLate z)
+stepBehind (gives g) before = stepRecord (gives g)
+
+abbrev recordBy : Answered → Receiver → ReceiverRecord → ReceiverRecord
+recordBy (refuses n) r before = before
+recordBy (isLate z) r before = before
+recordBy (gives g) r before = recordOf r
+
+-- the receiver's record behind a call: as it was, where the packet is refused or late
+abbrev pub recordBehind : Stepping.Step → ReceiverRecord → ReceiverRecord
+recordBehind s before = recordBy (s .answer) (s .receiver) before

@@ -1,37 +1,19 @@
-// What the exported calls answer, in the numbers and records of their callers.
+// What the exported calls answer, in the numbers and records of their callers. A flag in a record is a byte: 0 is false,
+// and any other value true.
 ghost use mathlib.Core.Path.{_≡_};
-ghost use Prim.Native.Nat.{_≤_};
-ghost use lib.ListN.{length};
-ghost use lib.Seq.{sets};
-ghost use Rattle.base.specs.Arrays.{over};
 ghost use Rattle.text_spec.specs.Utf8.{textOf};
-ghost use Rattle.packet_spec.specs.Limits.{level};
 ghost use Rattle.packet.specs.Refusal.{outcomeNumber};
 ghost use Rattle.packet.specs.Places.{sourceOf};
-ghost use Rattle.receiver.specs.View.{answered};
-ghost use Rattle.boundary.specs.Answers.{bit, blockNumbers, numbers, answerLength, expectedOf, readNumber, readAnswer, textNumber, textAnswer};
-ghost use Rattle.boundary.specs.Receiving.{stepNumber, stepRecord};
+ghost use Rattle.receiver_spec.specs.Step.{stepOf};
+ghost use Rattle.receiver.specs.View.{receiverOf, answered, advanced};
+ghost use Rattle.boundary.specs.Answers.{expectedOf, textAnswer};
+ghost use Rattle.boundary.specs.Receiving.{bit, flag, heldIn, recordOf, wasRefused, wasLate, stepNumber, stepRecord};
 use packet::Expected;
-use packet::Older;
 use packet::Outcome;
-use packet::Packet;
+use receiver::Advanced;
 use receiver::Answer;
+use receiver::Receiver;
 use text::Text;
-
-// How many numbers an answer of `stewpigeon_read` has.
-const ANSWER: usize = 7 + 3 * Packet::LEVEL;
-
-// What a call answers where the space lent to it is too short.
-const NO_SPACE: u8 = 255;
-
-fn marker_bit(marker: bool) -> u64
-    ensures { λ r. ⌜ r ≡ bit marker ⌝ }
-{
-    if marker {
-        return 1;
-    }
-    0
-}
 
 // 01's number, 0 where a call is accepted.
 pub fn number_of(outcome: Outcome) -> u8
@@ -43,7 +25,8 @@ pub fn number_of(outcome: Outcome) -> u8
     }
 }
 
-fn expected_of(expects: u8, source: u32) -> Expected
+// The source that a packet must have: any where `expects` is 0, else `source`.
+pub fn expected_of(expects: u8, source: u32) -> Expected
     ensures { λ r. ⌜ sourceOf r ≡ expectedOf expects source ⌝ }
 {
     if expects == 0 {
@@ -52,72 +35,127 @@ fn expected_of(expects: u8, source: u32) -> Expected
     Expected::Only(source)
 }
 
-fn put_blocks(older: [Older; Packet::LEVEL], answer: &mut [u64])
-    requires { ⌜ answerLength ≤ length (now answer) ⌝ }
-    ensures { λ _. ⌜ (length older ≡ level) × (now (answer .exit) ≡ sets (now (answer .entry)) 7 (blockNumbers older)) ⌝ }
-{
-    let mut k: usize = 0;
-    while k < Packet::LEVEL {
-        let block = older[k];
-        let at = 7 + 3 * k;
-        answer[at] = block.offset as u64;
-        answer[at + 1] = block.at as u64;
-        answer[at + 2] = block.len as u64;
-        k += 1;
-    }
+// What bytes are as UTF-8: text of so many characters, or not, and then the place of the first byte at which they can no
+// longer be.
+#[repr(C)]
+pub struct TextAnswer {
+    pub is_text: u8,
+    pub characters: usize,
+    pub place: usize,
 }
 
-fn put(packet: Packet, answer: &mut [u64])
-    requires { ⌜ answerLength ≤ length (now answer) ⌝ }
-    ensures { λ _. ⌜ now (answer .exit) ≡ over (numbers packet) (now (answer .entry)) ⌝ }
+pub fn text(bytes: &[u8]) -> TextAnswer
+    ensures { λ r. ⌜ r ≡ textAnswer (textOf (now (bytes .entry))) ⌝ }
 {
-    answer[0] = marker_bit(packet.marker);
-    answer[1] = packet.sequence as u64;
-    answer[2] = packet.timestamp as u64;
-    answer[3] = packet.source as u64;
-    answer[4] = packet.count as u64;
-    answer[5] = packet.primary as u64;
-    answer[6] = packet.end as u64;
-    let older = packet.older;
-    put_blocks(older, answer);
-}
-
-// `stewpigeon_read`.
-pub fn read(expects: u8, source: u32, t140: u8, red: u8, packet: &[u8], answer: &mut [u64]) -> u8
-    ensures { λ r. ⌜ (r ≡ readNumber expects source t140 red (now (packet .entry)) (now (answer .entry))) × (now (answer .exit) ≡ readAnswer expects source t140 red (now (packet .entry)) (now (answer .entry))) ⌝ }
-{
-    if answer.len() < ANSWER {
-        return NO_SPACE;
-    }
-    let expected = expected_of(expects, source);
-    let reading = reader::read_from(expected, t140, red, packet);
-    let outcome = reading.outcome;
-    let content = reading.packet;
-    put(content, answer);
-    number_of(outcome)
-}
-
-// `stewpigeon_text`.
-pub fn text(bytes: &[u8], answer: &mut [u64]) -> u8
-    ensures { λ r. ⌜ (r ≡ textNumber (textOf (now (bytes .entry))) (now (answer .entry))) × (now (answer .exit) ≡ textAnswer (textOf (now (bytes .entry))) (now (answer .entry))) ⌝ }
-{
-    if answer.len() < 1 {
-        return NO_SPACE;
-    }
     match text::text_of(bytes) {
-        Text::Characters(n) => {
-            answer[0] = n as u64;
-            0
-        }
-        Text::Stops(at) => {
-            answer[0] = at as u64;
-            1
-        }
+        Text::Characters(n) => TextAnswer {
+            is_text: 1,
+            characters: n,
+            place: 0,
+        },
+        Text::Stops(at) => TextAnswer {
+            is_text: 0,
+            characters: 0,
+            place: at,
+        },
     }
 }
 
-// What a step answers, for a caller in C. A late packet has `late` 1 and its distance; a refused one all zeros. The
-// text given is the packet's bytes from `from` up to `to`.
+// A receiver, as its callers lend it.
+#[repr(C)]
+pub struct ReceiverRecord {
+    pub t140: u8,
+    pub red: u8,
+    pub has_source: u8,
+    pub source: u32,
+    pub expected: u16,
+}
+
+fn is_set(byte: u8) -> bool
+    ensures { λ r. ⌜ r ≡ flag byte ⌝ }
+{
+    byte != 0
+}
+
+fn byte_of(set: bool) -> u8
+    ensures { λ r. ⌜ r ≡ bit set ⌝ }
+{
+    if set {
+        return 1;
+    }
+    0
+}
+
+pub fn receiver_of(lent: ReceiverRecord) -> Receiver
+    ensures { λ r. ⌜ receiverOf r ≡ heldIn lent ⌝ }
+{
+    let has_source = is_set(lent.has_source);
+    Receiver {
+        t140: lent.t140,
+        red: lent.red,
+        has_source,
+        source: lent.source,
+        expected: lent.expected,
+    }
+}
+
+pub fn record_of(receiver: Receiver) -> ReceiverRecord
+    ensures { λ r. ⌜ r ≡ recordOf (receiverOf receiver) ⌝ }
+{
+    let has_source = byte_of(receiver.has_source);
+    ReceiverRecord {
+        t140: receiver.t140,
+        red: receiver.red,
+        has_source,
+        source: receiver.source,
+        expected: receiver.expected,
+    }
+}
+
+// The step of the receiver in a record.
+pub fn advance(lent: ReceiverRecord, packet: &[u8]) -> Advanced
+    ensures { λ r. ⌜ advanced r ≡ stepOf (heldIn lent) (now (packet .entry)) ⌝ }
+{
+    let receiver = receiver_of(lent);
+    receiver.advance(packet)
+}
+
+pub fn is_refused(answer: Answer) -> bool
+    ensures { λ r. ⌜ r ≡ wasRefused (answered answer) ⌝ }
+{
+    match answer {
+        Answer::Refused(_) => true,
+        Answer::Late { distance: _ } => false,
+        Answer::Forward {
+            loss: _,
+            distance: _,
+            older: _,
+            given: _,
+            from: _,
+            to: _,
+        } => false,
+    }
+}
+
+pub fn is_late(answer: Answer) -> bool
+    ensures { λ r. ⌜ r ≡ wasLate (answered answer) ⌝ }
+{
+    match answer {
+        Answer::Refused(_) => false,
+        Answer::Late { distance: _ } => true,
+        Answer::Forward {
+            loss: _,
+            distance: _,
+            older: _,
+            given: _,
+            from: _,
+            to: _,
+        } => false,
+    }
+}
+
+// What a step answers, for a caller in C. A late packet has `late` 1 and its distance; a refused one has nothing to tell.
+// The text given is the packet's bytes from `from` up to `to`.
 #[repr(C)]
 pub struct Step {
     pub late: u8,

@@ -1,15 +1,16 @@
-// The functions that C and Rust callers link.
+// The functions that C and Rust callers link. What is lent to a call that is refused stays as it was; only an opening writes.
 mod receiving;
 mod sending;
 
 ghost use mathlib.Core.Path.{_≡_};
 ghost use Rattle.text_spec.specs.Utf8.{textOf};
-ghost use Rattle.boundary.specs.Answers.{readNumber, readAnswer, textNumber, textAnswer};
+ghost use Rattle.packet.specs.Places.{readOf};
+ghost use Rattle.boundary.specs.Answers.{expectedOf, packetBehind, textAnswer};
+use boundary::TextAnswer;
+use packet::Packet;
 
-// Reads a packet: 0 where it is accepted, else the refusal's number. With `expects` 0 any source is accepted, else
-// only `source`. `answer` gets marker, sequence, timestamp, source, number of older blocks, where the primary starts
-// and ends, then offset, place and length of each older block, oldest first; all zeros on a refusal. Where it has too
-// few numbers, 255 is answered and it stays.
+// Reads a packet: 0, and what it holds is stored in `answer`; or the refusal's number. With `expects` 0 any source is
+// accepted, else only `source`.
 #[no_mangle]
 pub extern "C" fn stewpigeon_read(
     expects: u8,
@@ -17,18 +18,25 @@ pub extern "C" fn stewpigeon_read(
     t140: u8,
     red: u8,
     packet: &[u8],
-    answer: &mut [u64],
+    answer: &mut Packet,
 ) -> u8
-    ensures { λ r. ⌜ (r ≡ readNumber expects source t140 red (now (packet .entry)) (now (answer .entry))) × (now (answer .exit) ≡ readAnswer expects source t140 red (now (packet .entry)) (now (answer .entry))) ⌝ }
+    ensures { λ r. ⌜ (r ≡ readOf (expectedOf expects source) t140 red (now (packet .entry)) .number) × (now (answer .exit) ≡ packetBehind (readOf (expectedOf expects source) t140 red (now (packet .entry))) (now (answer .entry))) ⌝ }
 {
-    boundary::read(expects, source, t140, red, packet, answer)
+    let expected = boundary::expected_of(expects, source);
+    let reading = reader::read_from(expected, t140, red, packet);
+    let outcome = reading.outcome;
+    let number = boundary::number_of(outcome);
+    if outcome.is_refused() {
+        return number;
+    }
+    *answer = reading.packet;
+    number
 }
 
-// 0 and the number of characters where the bytes are text, else 1 and the place of the first byte at which they can
-// no longer be; 255 where `answer` has no number.
+// Tells in `answer` what the bytes are as UTF-8.
 #[no_mangle]
-pub extern "C" fn stewpigeon_text(bytes: &[u8], answer: &mut [u64]) -> u8
-    ensures { λ r. ⌜ (r ≡ textNumber (textOf (now (bytes .entry))) (now (answer .entry))) × (now (answer .exit) ≡ textAnswer (textOf (now (bytes .entry))) (now (answer .entry))) ⌝ }
+pub extern "C" fn stewpigeon_text(bytes: &[u8], answer: &mut TextAnswer)
+    ensures { λ _. ⌜ now (answer .exit) ≡ textAnswer (textOf (now (bytes .entry))) ⌝ }
 {
-    boundary::text(bytes, answer)
+    *answer = boundary::text(bytes);
 }

@@ -4,35 +4,44 @@ ghost use mathlib.Core.Path.{_≡_};
 ghost use Rattle.receiver_spec.specs.Opening.{openingOf};
 ghost use Rattle.receiver_spec.specs.Step.{stepOf};
 ghost use Rattle.receiver_spec.specs.Marks.{marksWritten, marksOver};
-ghost use Rattle.receiver.specs.View.{receiverOf};
-ghost use Rattle.boundary.specs.Receiving.{stepNumber, stepRecord};
+ghost use Rattle.boundary.specs.Receiving.{heldIn, recordOf, stepNumber, stepBehind, recordBehind};
+use boundary::ReceiverRecord;
 use boundary::Step;
 use receiver::Receiver;
 
 // Opens a receiver in the record lent: 0, or the refusal's number and a record of all zeros.
 #[no_mangle]
-pub extern "C" fn stewpigeon_receiver_open(receiver: &mut Receiver, t140: u8, red: u8) -> u8
-    ensures { λ r. ⌜ (r ≡ openingOf t140 red .number) × (receiverOf (now (receiver .exit)) ≡ openingOf t140 red .receiver) ⌝ }
+pub extern "C" fn stewpigeon_receiver_open(receiver: &mut ReceiverRecord, t140: u8, red: u8) -> u8
+    ensures { λ r. ⌜ (r ≡ openingOf t140 red .number) × (now (receiver .exit) ≡ recordOf (openingOf t140 red .receiver)) ⌝ }
 {
     let opened = Receiver::open(t140, red);
-    *receiver = opened.receiver;
-    let outcome = opened.outcome;
-    boundary::number_of(outcome)
+    *receiver = boundary::record_of(opened.receiver);
+    boundary::number_of(opened.outcome)
 }
 
-// The receiver's step, in place: 0 where the packet is accepted, late or not, else the refusal's number.
+// The receiver's step: 0 where the packet is accepted, late or not, else the refusal's number. A refused packet leaves both
+// records, a late one the receiver's.
 #[no_mangle]
 pub extern "C" fn stewpigeon_receiver_step(
-    receiver: &mut Receiver,
+    receiver: &mut ReceiverRecord,
     packet: &[u8],
     step: &mut Step,
 ) -> u8
-    ensures { λ r. ⌜ (r ≡ stepNumber (stepOf (receiverOf (now (receiver .entry))) (now (packet .entry)) .answer)) × (receiverOf (now (receiver .exit)) ≡ stepOf (receiverOf (now (receiver .entry))) (now (packet .entry)) .receiver) × (now (step .exit) ≡ stepRecord (stepOf (receiverOf (now (receiver .entry))) (now (packet .entry)) .answer)) ⌝ }
+    ensures { λ r. ⌜ (r ≡ stepNumber (stepOf (heldIn (now (receiver .entry))) (now (packet .entry)) .answer)) × (now (receiver .exit) ≡ recordBehind (stepOf (heldIn (now (receiver .entry))) (now (packet .entry))) (now (receiver .entry))) × (now (step .exit) ≡ stepBehind (stepOf (heldIn (now (receiver .entry))) (now (packet .entry)) .answer) (now (step .entry))) ⌝ }
 {
-    let answer = receiver.step_in_place(packet);
-    let told = boundary::step_of(answer);
-    *step = told;
-    boundary::number_of_step(answer)
+    let lent = *receiver;
+    let advanced = boundary::advance(lent, packet);
+    let answer = advanced.answer;
+    let number = boundary::number_of_step(answer);
+    if boundary::is_refused(answer) {
+        return number;
+    }
+    *step = boundary::step_of(answer);
+    if boundary::is_late(answer) {
+        return number;
+    }
+    *receiver = boundary::record_of(advanced.receiver);
+    number
 }
 
 // Fills the space from its start with whole loss marks, as many as fit and at most `count`, and answers how many.

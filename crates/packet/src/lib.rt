@@ -83,6 +83,7 @@ pub enum Expected {
 }
 
 // An older block: its time offset, and where it lies in the packet.
+#[repr(C)]
 pub struct Older {
     pub offset: u16,
     pub at: usize,
@@ -90,6 +91,7 @@ pub struct Older {
 }
 
 // What an accepted packet holds: its older blocks, oldest first, and the primary from `primary` up to `end`.
+#[repr(C)]
 pub struct Packet {
     pub marker: bool,
     pub sequence: u16,
