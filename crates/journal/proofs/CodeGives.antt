@@ -9,12 +9,13 @@ use lib.Seq.{take-append-seam}
 use Rattle.journal_spec.specs.Contents.{longestPacket}
 use Rattle.base.specs.Arrays.{over}
 use Rattle.journal.specs.declared.Transcript.{Transcript}
-use Rattle.standing.specs.Standing.{Standing, start, takeOf, usedOf, givenOf, giveOf, stopOf, finished}
+use Rattle.standing.specs.Standing.{Standing, start, stopOf, finished}
+use Rattle.standing.specs.Filling.{fillOf}
 use Rattle.journal.specs.Ready.{first, standingOf, ready}
 use Rattle.standing.specs.Calls.{Call, play}
 use Rattle.standing.proofs.Cuts.{cuts}
-use Rattle.journal.specs.CodeCalls.{Ran, none, took, gave, stopped, CodeGives}
-use Rattle.journal.proofs.Ready.{does-take, does-give, does-stop, done-is, starts-ready, starts}
+use Rattle.journal.specs.CodeCalls.{Ran, none, filled, stopped, CodeGives}
+use Rattle.journal.proofs.Ready.{does-fill, does-stop, done-is, starts-ready, starts}
 
 given-front : (g x x' : List ℕ) (n : ℕ) → n ≡ length g → x' ≡ over g x → take n x' ≡ g
 given-front g x x' n e f = (λ i. take (e i) (f i)) ∙ take-append-seam g (drop (length g) x)
@@ -30,24 +31,18 @@ led : {s : Transcript} {p rest : List ℕ} {ks : List Call} {given : List ℕ} {
     → Ran s p rest ks given s' p' rest' → ready s ≡ true → longestPacket ≤ length p → Led ks (standingOf s p) rest given s' p'
 unfolding play
 led (none s p rest) ok long = record { still = ok; long = long; gives-all = refl; stands = refl }
-led (took s p rest n s₁ p₁ used {ks} {given} {s'} {p'} t l more) ok long =
-    let k = does-take s p ok long (take n rest) s₁ p₁ used t in
+led (filled s p rest n y s₁ p₁ y₁ used count {ks} {given} {s'} {p'} t l more) ok long =
+    let k = does-fill s p ok long (take n rest) y s₁ p₁ y₁ used count t in
     let w : longestPacket ≤ length p₁ = omega arith in
     let h = led more (k .still) w in
-    let e : play ks (standingOf s₁ p₁) (drop used rest) ≡ play ks (takeOf (standingOf s p) (take n rest)) (drop (usedOf (standingOf s p) (take n rest)) rest) =
-    λ i. play ks (k .stands i) (drop (k .uses i) rest) in
-    record { still = h .still; long = h .long; gives-all = h .gives-all ∙ ap (λ q. q .given) e; stands = h .stands ∙ ap (λ q. q .standing) e }
-led (gave s p rest x s₁ x₁ count {ks} {given} {s'} {p'} t more) ok long =
-    let k = does-give s p ok long x s₁ x₁ count t in
-    let h = led more (k .still) long in
-    let g = givenOf (standingOf s p) (length x) in
-    let e : play ks (standingOf s₁ p) rest ≡ play ks (giveOf (standingOf s p) (length x)) rest = ap (λ (c : Standing). play ks c rest) (k .stands) in
+    let r = fillOf (standingOf s p) (take n rest) (length y) in
+    let e : play ks (standingOf s₁ p₁) (drop used rest) ≡ play ks (r .standing) (drop (r .used) rest) = λ i. play ks (k .stands i) (drop (k .uses i) rest) in
     record {
       still = h .still;
       long = h .long;
       gives-all =
-          ap (λ (y : List ℕ). y ++ given) (given-front g x x₁ count (k .counts) (k .bytes))
-          ∙ ap (λ (y : List ℕ). g ++ y) (h .gives-all ∙ ap (λ q. q .given) e);
+          ap (λ (g : List ℕ). g ++ given) (given-front (r .given) y y₁ count (k .counts) (k .bytes))
+          ∙ ap (λ (g : List ℕ). r .given ++ g) (h .gives-all ∙ ap (λ q. q .given) e);
       stands = h .stands ∙ ap (λ q. q .standing) e;
     }
 led (stopped s p s₁ p₁ {ks} {given} {s'} {p'} t l more) ok long =

@@ -1,4 +1,4 @@
--- What `take` and `stop` leave.
+-- What `take` leaves.
 use Prim.Native.Nat.{ℕ, _-_, _≤_, min}
 use mathlib.Core.Path.{_≡_, _∙_, ap, sym, subst}
 use mathlib.Core.List.{List}
@@ -9,7 +9,7 @@ use lib.ListN.{length, take, length-take, length-drop}
 use Rattle.base.proofs.Fronts.{take-min}
 use Rattle.base.proofs.Tests.{both}
 use Rattle.journal_spec.specs.Contents.{longestPacket}
-use Rattle.parts.specs.declared.Part.the-variants.{Packet, Broken}
+use Rattle.parts.specs.declared.Part.the-variants.{Packet}
 use Rattle.parts.specs.Bytes.{Reading, readTo, unread, going}
 use Rattle.reading.specs.declared.Reader.{Reader}
 use Rattle.reading.specs.Reading.{readingOf}
@@ -20,17 +20,11 @@ use Rattle.counts.proofs.Fits.{fit-behind, one-more}
 use Rattle.due.specs.declared.Due.{Due}
 use Rattle.due.specs.Due.{lineDue, within, textDue}
 use Rattle.due.proofs.Arising.{none-text, line-within}
-use Rattle.journal_spec.specs.Lines.{brokenLine}
-use Rattle.standing.specs.Standing.{Standing, closed, settled, after, hungry, usedOf, takeOf}
+use Rattle.standing.specs.Standing.{settled, after, hungry, usedOf, takeOf}
 use Rattle.standing.proofs.Unread.{stopped-less, goes-on}
-use Rattle.standing.proofs.HowFar.{stop-on}
 use Rattle.journal.specs.declared.Transcript.{Transcript}
-use Rattle.journal.specs.Ready.{standingOf, ready, Takes, Stops}
+use Rattle.journal.specs.Ready.{standingOf, ready, Takes}
 use Rattle.journal.proofs.Ready.{facts, holds}
-
-pub stops : (s : Transcript) (p : List ℕ) (s' : Transcript) (p' : List ℕ) → hungry (standingOf s p) ≡ true → ready s' ≡ true
-    → standingOf s' p' ≡ closed (standingOf s p) Broken brokenLine → Stops s p s' p'
-stops s p s' p' h ok e = record { still = ok; stands = e ∙ stop-on (standingOf s p) h }
 
 -- a call of the reader took used bytes of x
 module _ (s : Transcript) (p x : List ℕ) (ok : ready s ≡ true) (long : longestPacket ≤ length p) (n : ℕ) (ne : n ≡ min (length x) (s .left)) (r' : Reader)

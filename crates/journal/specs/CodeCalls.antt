@@ -6,19 +6,18 @@ use mathlib.Core.List.{List, [], _∷_, _++_}
 use lib.ListN.{length, take, drop}
 use Rattle.journal_spec.specs.Contents.{longestPacket}
 use Rattle.journal_spec.specs.Transcript.{transcript}
-use Rattle.standing.specs.Calls.{Call, takes, gives, stops}
+use Rattle.standing.specs.Calls.{Call, fills, stops}
 use Rattle.journal.specs.declared.Transcript.{Transcript}
-use Rattle.journal.specs.Ready.{first, Taking, Giving, Stopping, done}
+use Rattle.journal.specs.Ready.{first, Filling, Stopping, done}
 
 -- Calls of the code on one lent buffer, each answered as its contract says: from a transcript, the buffer p and the journal's
 -- bytes still to come to those behind the calls, with what was given, joined. A buffer keeps its length, and `stop` is called
 -- only where the journal has no more bytes.
 pub data Ran : Transcript → List ℕ → List ℕ → List Call → List ℕ → Transcript → List ℕ → List ℕ → Type 0 where
   none : (s : Transcript) (p rest : List ℕ) → Ran s p rest [] [] s p rest
-  took : (s : Transcript) (p rest : List ℕ) (n : ℕ) (s₁ : Transcript) (p₁ : List ℕ) (used : ℕ) {ks : List Call} {given : List ℕ} {s' : Transcript} {p' rest' : List ℕ}
-      → Taking s p (take n rest) s₁ p₁ used → length p₁ ≡ length p → Ran s₁ p₁ (drop used rest) ks given s' p' rest' → Ran s p rest (takes n ∷ ks) given s' p' rest'
-  gave : (s : Transcript) (p rest : List ℕ) (x : List ℕ) (s₁ : Transcript) (x₁ : List ℕ) (count : ℕ) {ks : List Call} {given : List ℕ} {s' : Transcript} {p' rest' : List ℕ}
-      → Giving s p x s₁ x₁ count → Ran s₁ p rest ks given s' p' rest' → Ran s p rest (gives (length x) ∷ ks) (take count x₁ ++ given) s' p' rest'
+  filled : (s : Transcript) (p rest : List ℕ) (n : ℕ) (y : List ℕ) (s₁ : Transcript) (p₁ y₁ : List ℕ) (used count : ℕ) {ks : List Call} {given : List ℕ} {s' : Transcript} {p' rest' : List ℕ}
+      → Filling s p (take n rest) y s₁ p₁ y₁ used count → length p₁ ≡ length p → Ran s₁ p₁ (drop used rest) ks given s' p' rest'
+      → Ran s p rest (fills n (length y) ∷ ks) (take count y₁ ++ given) s' p' rest'
   stopped : (s : Transcript) (p : List ℕ) (s₁ : Transcript) (p₁ : List ℕ) {ks : List Call} {given : List ℕ} {s' : Transcript} {p' rest' : List ℕ}
       → Stopping s p s₁ p₁ → length p₁ ≡ length p → Ran s₁ p₁ [] ks given s' p' rest' → Ran s p [] (stops ∷ ks) given s' p' rest'
 

@@ -15,6 +15,7 @@ use Rattle.reading.specs.Reading as Reading
 use Rattle.counts.specs.Counts.{noCounts, countsFit}
 use Rattle.due.specs.Due.{lineDue, noneDue, within, textDue}
 use Rattle.standing.specs.Standing.{Standing, takeOf, usedOf, givenOf, giveOf, stopOf}
+use Rattle.standing.specs.Filling.{fillOf}
 use Rattle.journal.specs.declared.Transcript.{Transcript}
 
 -- no receiver is open yet
@@ -44,6 +45,10 @@ ready s = within (s .due) && countsFit (s .counts) (s .left) && sound (s .reader
 abbrev pub readyWith : Transcript → ℕ → Bool
 readyWith s space = leb longestPacket space && ready s
 
+-- reading goes on, and nothing is due
+abbrev pub hungryNow : Transcript → Bool
+hungryNow s = going (s .reader .part) && noneDue (s .due)
+
 -- nothing is done: the transcript and the lent bytes stay, and the number is 0
 pub record Stays (s : Transcript) (l : List ℕ) (s' : Transcript) (l' : List ℕ) (n : ℕ) : Type 0 where
   pub transcript : s' ≡ s
@@ -51,34 +56,34 @@ pub record Stays (s : Transcript) (l : List ℕ) (s' : Transcript) (l' : List �
   pub none : n ≡ 0
 
 -- With the lent p, so many bytes of x were taken. Of p' only what the standing holds is told, the pieces and the text due; its
--- other bytes, and where in it the text lies, are left open, here and for `stop`.
+-- other bytes, and where in it the text lies, are left open, here, for `fill` and for `stop`.
 pub record Takes (s : Transcript) (p x : List ℕ) (s' : Transcript) (p' : List ℕ) (used : ℕ) : Type 0 where
   pub still : ready s' ≡ true
   pub stands : standingOf s' p' ≡ takeOf (standingOf s p) x
   pub uses : used ≡ usedOf (standingOf s p) x
 
-abbrev pub TakesIf : Bool → Transcript → List ℕ → List ℕ → Transcript → List ℕ → ℕ → Type 0
-TakesIf true s p x s' p' used = Takes s p x s' p' used
-TakesIf false s p x s' p' used = Stays s p s' p' used
-
--- what `take` answers
-abbrev pub Taking : Transcript → List ℕ → List ℕ → Transcript → List ℕ → ℕ → Type 0
-Taking s p x s' p' used = TakesIf (readyWith s (length p)) s p x s' p' used
-
--- the space x became x', with so many bytes given at its front
-pub record Gives (s : Transcript) (p x : List ℕ) (s' : Transcript) (x' : List ℕ) (count : ℕ) : Type 0 where
+-- the space y became y', with so many bytes given at its front
+pub record Gives (s : Transcript) (p y : List ℕ) (s' : Transcript) (y' : List ℕ) (count : ℕ) : Type 0 where
   pub still : ready s' ≡ true
-  pub stands : standingOf s' p ≡ giveOf (standingOf s p) (length x)
-  pub counts : count ≡ length (givenOf (standingOf s p) (length x))
-  pub bytes : x' ≡ over (givenOf (standingOf s p) (length x)) x
+  pub stands : standingOf s' p ≡ giveOf (standingOf s p) (length y)
+  pub counts : count ≡ length (givenOf (standingOf s p) (length y))
+  pub bytes : y' ≡ over (givenOf (standingOf s p) (length y)) y
 
-abbrev pub GivesIf : Bool → Transcript → List ℕ → List ℕ → Transcript → List ℕ → ℕ → Type 0
-GivesIf true s p x s' x' count = Gives s p x s' x' count
-GivesIf false s p x s' x' count = Stays s x s' x' count
+-- with the lent p, so many bytes of x were used, and so many given at the front of y
+pub record Fills (s : Transcript) (p x y : List ℕ) (s' : Transcript) (p' y' : List ℕ) (used count : ℕ) : Type 0 where
+  pub still : ready s' ≡ true
+  pub stands : standingOf s' p' ≡ fillOf (standingOf s p) x (length y) .standing
+  pub uses : used ≡ fillOf (standingOf s p) x (length y) .used
+  pub counts : count ≡ length (fillOf (standingOf s p) x (length y) .given)
+  pub bytes : y' ≡ over (fillOf (standingOf s p) x (length y) .given) y
 
--- what `give` answers
-abbrev pub Giving : Transcript → List ℕ → List ℕ → Transcript → List ℕ → ℕ → Type 0
-Giving s p x s' x' count = GivesIf (readyWith s (length p)) s p x s' x' count
+abbrev pub FillsIf : Bool → Transcript → List ℕ → List ℕ → List ℕ → Transcript → List ℕ → List ℕ → ℕ → ℕ → Type 0
+FillsIf true s p x y s' p' y' used count = Fills s p x y s' p' y' used count
+FillsIf false s p x y s' p' y' used count = Stays s p s' p' used × Stays s y s' y' count
+
+-- what `fill` answers
+abbrev pub Filling : Transcript → List ℕ → List ℕ → List ℕ → Transcript → List ℕ → List ℕ → ℕ → ℕ → Type 0
+Filling s p x y s' p' y' used count = FillsIf (readyWith s (length p)) s p x y s' p' y' used count
 
 pub record Stops (s : Transcript) (p : List ℕ) (s' : Transcript) (p' : List ℕ) : Type 0 where
   pub still : ready s' ≡ true

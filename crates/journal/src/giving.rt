@@ -5,8 +5,13 @@ ghost use Prim.Native.Nat.{_≤_};
 ghost use lib.ListN.{length};
 ghost use Rattle.journal_spec.specs.Contents.{longestPacket};
 ghost use Rattle.journal.specs.Ready.{ready, Gives};
-use crate::Given;
 use crate::Transcript;
+
+// How many bytes of the space were filled.
+pub struct Given {
+    pub transcript: Transcript,
+    pub count: usize,
+}
 
 pub fn give(s: Transcript, packet: &[u8], space: &mut [u8]) -> Given
     requires { ⌜ (ready s ≡ true) × (longestPacket ≤ length (now packet)) ⌝ }

@@ -1,4 +1,5 @@
 // A journal's transcript, from pieces of any size into space of any size.
+mod filling;
 mod giving;
 mod settling;
 mod state;
@@ -7,7 +8,7 @@ mod taking;
 ghost use mathlib.Core.Path.{_≡_};
 ghost use mathlib.Core.Bool.{not};
 ghost use Rattle.due.specs.Due.{noneDue};
-ghost use Rattle.journal.specs.Ready.{first, Taking, Giving, Stopping, done};
+ghost use Rattle.journal.specs.Ready.{first, Filling, Stopping, done};
 use counts::Counts;
 use due::Due;
 use reading::Reader;
@@ -23,15 +24,10 @@ pub struct Transcript {
     pub due: Due,
 }
 
-// How many bytes of the journal were used.
-pub struct Taken {
+// How many bytes of the journal were used, and how many bytes of the space were filled.
+pub struct Filled {
     pub transcript: Transcript,
     pub used: usize,
-}
-
-// How many bytes of the space were filled.
-pub struct Given {
-    pub transcript: Transcript,
     pub count: usize,
 }
 
@@ -61,32 +57,19 @@ impl Transcript {
         }
     }
 
-    // Takes the journal's next bytes until something is due, the journal has ended or all are used; none while something
-    // is due. What was not used is lent again.
-    pub fn take(self, input: &[u8], packet: &mut [u8]) -> Taken
-        ensures { λ r. ⌜ Taking self (now (packet .entry)) (now (input .entry)) (r .transcript) (now (packet .exit)) (r .used) ⌝ }
-    {
-        let hungry = state::is_hungry(self, packet.len());
-        if hungry {
-            return taking::take(self, input, packet);
-        }
-        Taken {
-            transcript: self,
-            used: 0,
-        }
-    }
-
-    // Gives what is due into the front of the space: whole marks, then text. With marks due, a space of one or two bytes
-    // gets nothing.
-    pub fn give(self, packet: &[u8], space: &mut [u8]) -> Given
-        ensures { λ r. ⌜ Giving self (now (packet .entry)) (now (space .entry)) (r .transcript) (now (space .exit)) (r .count) ⌝ }
+    // Gives what is due into the space and takes the journal's next bytes, in turns, until something stays due, reading
+    // has ended or all bytes are used. What was not used is lent again. Into the space go whole marks, then text: with
+    // marks due, one or two bytes of it get nothing.
+    pub fn fill(self, input: &[u8], packet: &mut [u8], space: &mut [u8]) -> Filled
+        ensures { λ r. ⌜ Filling self (now (packet .entry)) (now (input .entry)) (now (space .entry)) (r .transcript) (now (packet .exit)) (now (space .exit)) (r .used) (r .count) ⌝ }
     {
         let ready = state::is_ready(self, packet.len());
         if ready {
-            return giving::give(self, packet, space);
+            return filling::fill(self, input, packet, space);
         }
-        Given {
+        Filled {
             transcript: self,
+            used: 0,
             count: 0,
         }
     }
@@ -95,9 +78,9 @@ impl Transcript {
     pub fn stop(self, packet: &mut [u8]) -> Transcript
         ensures { λ r. ⌜ Stopping self (now (packet .entry)) r (now (packet .exit)) ⌝ }
     {
-        let hungry = state::is_hungry(self, packet.len());
-        if hungry {
-            return settling::break_off(self, packet);
+        let ready = state::is_ready(self, packet.len());
+        if ready {
+            return settling::stop(self, packet);
         }
         self
     }

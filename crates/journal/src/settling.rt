@@ -7,8 +7,9 @@ ghost use Rattle.journal_spec.specs.Contents.{longestPacket};
 ghost use Rattle.journal_spec.specs.Lines.{brokenLine};
 ghost use Rattle.counts.specs.Counts.{OneMore};
 ghost use Rattle.standing.specs.Standing.{settled, closed};
-ghost use Rattle.journal.specs.Ready.{ready, standingOf};
+ghost use Rattle.journal.specs.Ready.{ready, standingOf, Stops};
 use crate::Transcript;
+use crate::state;
 use parts::Part;
 use reading::Reader;
 
@@ -23,6 +24,18 @@ pub fn break_off(s: Transcript, packet: &mut [u8]) -> Transcript
     broken.reader = Reader::outside(reader.opened, Part::Broken);
     broken.due = due;
     broken
+}
+
+// The journal has no more bytes.
+pub fn stop(s: Transcript, packet: &mut [u8]) -> Transcript
+    requires { ⌜ (ready s ≡ true) × (longestPacket ≤ length (now packet)) ⌝ }
+    ensures { λ r. ⌜ Stops s (now (packet .entry)) r (now (packet .exit)) ⌝ }
+{
+    let hungry = state::is_hungry(s);
+    if hungry {
+        return break_off(s, packet);
+    }
+    s
 }
 
 // Where reading goes on more is to come, unless the limit is reached.

@@ -6,10 +6,15 @@ ghost use lib.ListN.{length};
 ghost use Rattle.journal_spec.specs.Contents.{longestPacket};
 ghost use Rattle.standing.specs.Standing.{hungry};
 ghost use Rattle.journal.specs.Ready.{standingOf, ready, Takes};
-use crate::Taken;
 use crate::Transcript;
 use crate::settling;
 use due::Due;
+
+// How many bytes of the journal were used.
+pub struct Taken {
+    pub transcript: Transcript,
+    pub used: usize,
+}
 
 pub fn take(s: Transcript, input: &[u8], packet: &mut [u8]) -> Taken
     requires { ⌜ (ready s ≡ true) × (longestPacket ≤ length (now packet)) × (hungry (standingOf s (now packet)) ≡ true) ⌝ }

@@ -1,17 +1,20 @@
 -- How far a call gets: what may still be read, and what is due.
-use Prim.Native.Nat.{ℕ, _+_, _-_, _*_, _≤_}
+use Prim.Native.Nat.{ℕ, _+_, _-_, _*_, _/_, _<_, _≤_, min}
 use mathlib.Core.Path.{_≡_, _∙_, refl, ap, sym}
 use mathlib.Core.List.{List}
-use mathlib.Core.Bool.{Bool, true, false, cond}
+use mathlib.Core.Bool.{Bool, true, false, cond, _&&_, true≢false}
 use native.Mathlib.Omega.{arith}
+use borrow.Author.Tests.{eqb-true, eqb-false, eq-eqb}
 use lib.Dec.{eqb}
-use lib.ListN.{length, take, drop, length-take}
+use lib.ListN.{length, take, drop, length-take, length-drop}
 use Rattle.parts.specs.declared.Part.{Part}
 use Rattle.parts.specs.declared.Part.the-variants.{Kind, Types, Red, Length, Low, Piece, Time, Opened, Packet, Ended, Broken}
-use Rattle.parts.specs.Bytes.{readTo, unread}
+use Rattle.parts.specs.Bytes.{Reading, readTo, unread, going}
 use Rattle.journal_spec.specs.Lines.{brokenLine}
-use Rattle.standing.specs.Standing.{Standing, closed, settled, settledAt, waits, after, hungry, takeOf, usedOf, giveOf, givenOf, marksIn, textIn, stopOf}
-use Rattle.printing.proofs.Fitting.{fitting-length}
+use Rattle.standing.specs.Standing.{Standing, closed, settled, settledAt, waits, after, hungry, nothingDue, takeOf, usedOf, giveOf, givenOf, marksIn, textIn, stopOf}
+use Rattle.printing.proofs.Fitting.{fitting-length, fitting-fits}
+use Rattle.standing.proofs.Unread.{unread-less, goes-on}
+use Rattle.standing.proofs.Settled.{waits-at}
 
 -- nothing is taken while something is due
 pub take-off : (c : Standing) (x : List ℕ) → hungry c ≡ false → (c ≡ takeOf c x) × (0 ≡ usedOf c x)
@@ -60,6 +63,10 @@ take-left c x = go (hungry c)
         (omega (arith, length-take (c .left) x))
     go false = omega arith
 
+pub give-left : (c : Standing) (n : ℕ) → giveOf c n .left ≡ c .left
+unfolding giveOf
+give-left c n = refl
+
 pub stop-left : (c : Standing) → stopOf c .left ≡ c .left
 unfolding stopOf
 stop-left c = go (hungry c)
@@ -94,3 +101,59 @@ used-fits c x = go (hungry c)
     go : (b : Bool) → cond b (length (take (c .left) x) - length (unread (c .reading) (take (c .left) x))) 0 ≤ length x
     go true = omega (arith, length-take (c .left) x)
     go false = omega arith
+
+used-some : (c : Standing) (x : List ℕ) → hungry c ≡ true → length (unread (c .reading) (take (c .left) x)) < length (take (c .left) x) → 0 < usedOf c x
+unfolding usedOf
+used-some c x h l = rw h (omega arith)
+
+-- at the limit reading ends
+none-left : (c : Standing) (r : Reading) (n : ℕ) → going (r .part) ≡ true → n ≡ 0 → going (settled (after c r n) .reading .part) ≡ false
+unfolding settled
+none-left c r n g z =
+    ap (λ (w : Standing). going (w .reading .part)) (waits-at (r .part) (after c r n) g)
+    ∙ ap (λ (b : Bool). going (cond b (closed (after c r n) Broken brokenLine) (after c r n) .reading .part)) (eq-eqb n 0 z)
+
+none-read : (r : Reading) (n : ℕ) (x : List ℕ) → n ≡ 0 → readTo r (take n x) ≡ r
+unfolding readTo
+none-read r n x z = ap (λ (k : ℕ). readTo r (take k x)) z
+
+ends-at-limit : (c : Standing) (x : List ℕ) → hungry c ≡ true → c .left ≡ 0 → going (takeOf c x .reading .part) ≡ false
+unfolding takeOf
+ends-at-limit c x h z =
+    rw h
+    (ap (λ (r : Reading). going (settled (after c r (c .left - usedOf c x)) .reading .part)) (none-read (c .reading) (c .left) x z)
+    ∙ none-left c (c .reading) (c .left - usedOf c x) (goes-on c h) (omega arith))
+
+-- where nothing is due, `take` uses a byte of what it is lent, or reading ends
+pub takes-some : (c : Standing) (x : List ℕ) → hungry c ≡ true → 0 < length x → going (takeOf c x .reading .part) ≡ true → 0 < usedOf c x
+takes-some c x h some still = go (eqb (c .left) 0) refl
+  where
+    go : (b : Bool) → eqb (c .left) 0 ≡ b → 0 < usedOf c x
+    go true e = absurd (true≢false (sym still ∙ ends-at-limit c x h (eqb-true (c .left) 0 e)))
+    go false e =
+        let l : 0 < length (take (c .left) x) = omega (arith, length-take (c .left) x, eqb-false (c .left) 0 e) in
+        used-some c x h (unread-less (c .reading) (take (c .left) x) (goes-on c h) l)
+
+pub given-fits : (c : Standing) (n : ℕ) → length (givenOf c n) ≤ n
+given-fits c n = omega (arith, given-length c n, fitting-fits (c .marks) (c .text) n .0)
+
+-- where something stays due, a mark has no room, or the space is full
+pub leaves-no-room : (c : Standing) (n : ℕ) → nothingDue (giveOf c n) ≡ false → n < length (givenOf c n) + 3
+unfolding giveOf
+leaves-no-room c n h = rw (given-length c n) (go (eqb (marksIn c n) (c .marks)) refl)
+  where
+    go : (a : Bool) → eqb (marksIn c n) (c .marks) ≡ a → n < 3 * marksIn c n + cond a (min (n - 3 * marksIn c n) (length (c .text))) 0 + 3
+    go false e = let few = eqb-false (marksIn c n) (c .marks) e in omega arith
+    go true e = text (eqb (c .marks - marksIn c n) 0) refl (eqb (length (drop (textIn c n) (c .text))) 0) refl h
+      where
+        all : marksIn c n ≡ c .marks
+        all = eqb-true (marksIn c n) (c .marks) e
+
+        much : textIn c n ≡ min (n - 3 * marksIn c n) (length (c .text))
+        much = ap (λ (t : Bool). cond t (min (n - 3 * marksIn c n) (length (c .text))) 0) e
+
+        text : (b : Bool) → eqb (c .marks - marksIn c n) 0 ≡ b → (d : Bool) → eqb (length (drop (textIn c n) (c .text))) 0 ≡ d → b && d ≡ false
+            → n < 3 * marksIn c n + min (n - 3 * marksIn c n) (length (c .text)) + 3
+        text true f true g z = absurd (true≢false z)
+        text true f false g z = omega (arith, much, eqb-false (length (drop (textIn c n) (c .text))) 0 g, length-drop (textIn c n) (c .text))
+        text false f d g z = absurd (eqb-false (c .marks - marksIn c n) 0 f (omega (arith, all)))

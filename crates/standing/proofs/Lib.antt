@@ -1,5 +1,6 @@
 pub mod Unread
 pub mod Settled
-pub mod StillToGive
-pub mod Cuts
 pub mod HowFar
+pub mod StillToGive
+pub mod Filling
+pub mod Cuts

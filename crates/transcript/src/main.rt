@@ -1,118 +1,73 @@
 // Reads a journal on standard input and writes its transcript to standard output.
 ghost use mathlib.Core.Path.{_≡_};
-ghost use Prim.Native.Nat.{_+_, _≤_};
-ghost use lib.ListN.{length};
+ghost use mathlib.Core.Bool.{true};
+ghost use Prim.Native.Nat.{_+_, _<_, _≤_};
 use journal::Transcript;
 use libc::STDERR_FILENO;
 use libc::STDIN_FILENO;
 use libc::STDOUT_FILENO;
 
-// A transcript, how many bytes of the output stand unwritten, and whether every write went well.
-struct Drained {
+// How many bytes of the input were used, and whether every write went well.
+struct Poured {
     transcript: Transcript,
-    at: usize,
-    written: bool,
-}
-
-// The same, and how many bytes of the input were used.
-struct Pumped {
-    transcript: Transcript,
-    at: usize,
-    written: bool,
     used: usize,
+    written: bool,
 }
 
-// Puts what is due behind the bytes that stand unwritten, and writes these where the space is full.
-fn drain(from: Transcript, packet: &[u8], out: &mut [u8], begin: usize) -> Drained
-    requires { ⌜ (begin ≤ length (now out)) × (length (now out) ≤ 65536) ⌝ }
-    ensures { λ r. ⌜ (r .at ≤ length (now (out .entry))) × (r .transcript .left ≡ from .left) ⌝ }
+// Whether to fill again: something is still due, and what was filled is written.
+fn has_more(transcript: Transcript, count: usize, written: bool) -> bool
+    ensures { λ r. ⌜ (r ≡ true → 0 < count) ⌝ }
 {
-    let mut transcript = from;
-    let mut at = begin;
-    loop {
-        let given = transcript.give(packet, &mut out[at..]);
-        let next = given.transcript;
-        let end = at + given.count;
-        let due = next.is_due();
-        if !due {
-            return Drained {
-                transcript: next,
-                at: end,
-                written: true,
-            };
-        }
-        if end == 0 {
-            return Drained {
-                transcript: next,
-                at: end,
-                written: true,
-            };
-        }
-        let written = io::write_all(STDOUT_FILENO, &out[..end]);
-        if !written {
-            return Drained {
-                transcript: next,
-                at: 0,
-                written: false,
-            };
-        }
-        transcript = next;
-        at = 0;
-    }
-}
-
-// Takes the input and puts what it gives into the output.
-fn pump(from: Transcript, input: &[u8], packet: &mut [u8], out: &mut [u8]) -> Pumped
-    requires { ⌜ (length (now input) ≤ 65536) × (length (now out) ≤ 65536) ⌝ }
-    ensures { λ r. ⌜ (r .at ≤ length (now (out .entry))) × (r .transcript .left + r .used ≡ from .left) ⌝ }
-{
-    let mut transcript = from;
-    let mut at = 0;
-    let mut used = 0;
-    let mut written = true;
-    while used < input.len() {
-        let taken = transcript.take(&input[used..], packet);
-        let more = taken.used;
-        let drained = drain(taken.transcript, packet, out, at);
-        let next = drained.transcript;
-        transcript = next;
-        at = drained.at;
-        used += more;
-        written = drained.written;
-        if more == 0 {
-            break;
-        }
-        if !written {
-            break;
-        }
-    }
-    Pumped {
-        transcript,
-        at,
-        written,
-        used,
-    }
-}
-
-// The input has ended: what is left goes out.
-fn finish(transcript: Transcript, packet: &mut [u8], out: &mut [u8]) -> bool
-    requires { ⌜ length (now out) ≤ 65536 ⌝ }
-{
-    let stopped = transcript.stop(packet);
-    let drained = drain(stopped, packet, out, 0);
-    let written = drained.written;
     if written {
-        let at = drained.at;
-        return io::write_all(STDOUT_FILENO, &out[..at]);
+        if 0 < count {
+            return transcript.is_due();
+        }
+    }
+    false
+}
+
+// Fills the output and writes it, until the input is used up or reading has ended.
+fn pour(from: Transcript, input: &[u8], packet: &mut [u8], out: &mut [u8]) -> Poured
+    ensures { λ r. ⌜ r .transcript .left + r .used ≡ from .left ⌝ }
+{
+    let mut transcript = from;
+    let mut used = 0;
+    loop {
+        let filled = transcript.fill(&input[used..], packet, out);
+        let next = filled.transcript;
+        let count = filled.count;
+        used += filled.used;
+        let written = io::write_all(STDOUT_FILENO, &out[..count]);
+        let more = has_more(next, count, written);
+        if !more {
+            return Poured {
+                transcript: next,
+                used,
+                written,
+            };
+        }
+        transcript = next;
+    }
+}
+
+// Whether to read on: the writes went well, all n bytes were used and the end has not come.
+fn goes_on(poured: Poured, n: usize) -> bool
+    ensures { λ r. ⌜ (r ≡ true → n ≤ poured .used) ⌝ }
+{
+    if poured.used < n {
+        return false;
+    }
+    if poured.written {
+        let transcript = poured.transcript;
+        let done = transcript.is_done();
+        return !done;
     }
     false
 }
 
 // Reads until the journal ends or is broken, and before each read writes all that is due. Answers whether every write
 // went well.
-fn run(input: &mut [u8], packet: &mut [u8], out: &mut [u8]) -> bool
-    requires { ⌜ (length (now input) ≤ 65536) × (length (now out) ≤ 65536) ⌝ }
-{
+fn run(input: &mut [u8], packet: &mut [u8], out: &mut [u8]) -> bool {
     let mut transcript = Transcript::start();
     loop {
         let got = libc::read(STDIN_FILENO, input);
@@ -124,24 +79,16 @@ fn run(input: &mut [u8], packet: &mut [u8], out: &mut [u8]) -> bool
         }
         let n = io::count(got, input);
         if n == 0 {
-            return finish(transcript, packet, out);
+            let stopped = transcript.stop(packet);
+            let last = pour(stopped, &input[..n], packet, out);
+            return last.written;
         }
-        let pumped = pump(transcript, &input[..n], packet, out);
-        let written = pumped.written;
-        if !written {
-            return false;
+        let poured = pour(transcript, &input[..n], packet, out);
+        let on = goes_on(poured, n);
+        if !on {
+            return poured.written;
         }
-        let at = pumped.at;
-        if !io::write_all(STDOUT_FILENO, &out[..at]) {
-            return false;
-        }
-        let next = pumped.transcript;
-        if next.is_done() {
-            return true;
-        }
-        if pumped.used < n {
-            return true;
-        }
+        let next = poured.transcript;
         transcript = next;
     }
 }
