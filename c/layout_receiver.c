@@ -26,6 +26,19 @@ static void open(struct guarded_receiver *line)
     EXPECT(receiver->source == 0 && receiver->expected == 0);
 }
 
+/* Fills what lies around the record and between its fields, whatever a call has left there. */
+static void refilled(struct guarded_receiver *line)
+{
+    const struct stewpigeon_receiver from = line->record;
+
+    FILLED(*line);
+    line->record.t140 = from.t140;
+    line->record.red = from.red;
+    line->record.has_source = from.has_source;
+    line->record.source = from.source;
+    line->record.expected = from.expected;
+}
+
 /* A packet that is accepted. */
 static void accepted(struct guarded_receiver *line, const uint8_t *packet, struct guarded_step *step)
 {
@@ -54,6 +67,7 @@ static void every_field(void)
     EXPECT(step->late == 0 && step->loss == 1 && step->distance == 2);
     EXPECT(step->older == 1 && step->given == 2 && step->from == 17 && step->to == 20);
 
+    refilled(&line);
     KEEP(kept, line);
     accepted(&line, first, &told);
     EXPECT(SAME(kept, line));
@@ -67,6 +81,7 @@ static uint8_t refused(struct guarded_receiver *line, const uint8_t *packet, siz
     struct guarded_step step;
     uint8_t number;
 
+    refilled(line);
     KEEP(kept, *line);
     FILLED(step);
     number = stewpigeon_receiver_step(&line->record, packet, length, &step.record);
@@ -140,6 +155,7 @@ static void every_flag(void)
 
         flagged(&line, flag);
         line.record.expected = 0x1235;
+        refilled(&line);
         KEEP(kept, line);
         accepted(&line, first, &step);
         EXPECT(step.record.late == (flag == 0 ? 0 : 1) && step.record.distance == (flag == 0 ? 0 : -1));

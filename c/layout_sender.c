@@ -24,6 +24,33 @@ static void opened_fields(struct guarded_record *line, struct guarded_texts *tex
     memset(texts->record, fill, sizeof texts->record);
 }
 
+/* Fills what lies around the record and between its fields, whatever a call has left there. */
+static void refilled(struct guarded_record *line)
+{
+    const struct stewpigeon_sender_record from = line->record;
+    struct stewpigeon_sender_record *to = &line->record;
+
+    FILLED(*line);
+    to->settings.level = from.settings.level;
+    to->settings.buffering = from.settings.buffering;
+    to->settings.t140 = from.settings.t140;
+    to->settings.red = from.settings.red;
+    to->settings.sequence = from.settings.sequence;
+    to->settings.timestamp = from.settings.timestamp;
+    to->settings.source = from.settings.source;
+    to->clock = from.clock;
+    to->room = from.room;
+    to->len = from.len;
+    to->since = from.since;
+    memcpy(to->lens, from.lens, sizeof to->lens);
+    memcpy(to->ats, from.ats, sizeof to->ats);
+    to->count = from.count;
+    to->progress.sent = from.progress.sent;
+    to->progress.last = from.progress.last;
+    to->progress.last_text = from.progress.last_text;
+    to->progress.next = from.progress.next;
+}
+
 static void every_field(void)
 {
     static const uint8_t text[] = {'A', 0xC3, 0xA9};
@@ -97,6 +124,7 @@ static void refused(struct guarded_record *line, struct guarded_texts *texts)
 
     memset(whole_room, 'D', sizeof whole_room);
     memset(space, fill, sizeof space);
+    refilled(line);
     KEEP(kept, *line);
     KEEP(kept_texts, *texts);
     EXPECT(stewpigeon_sender_offer_in(sender, texts->record, 4, more, 1) == STEWPIGEON_REFUSED_CLOCK);
@@ -121,6 +149,7 @@ static void quiet(struct guarded_record *line, struct guarded_texts *texts, uint
     uint8_t space[STEWPIGEON_LONGEST];
 
     memset(space, fill, sizeof space);
+    refilled(line);
     KEEP(kept, *line);
     KEEP(kept_texts, *texts);
     EXPECT(stewpigeon_sender_clock_in(&line->record, texts->record, clock, space, sizeof space) == 0);
@@ -158,6 +187,7 @@ static void stays(void)
     EXPECT(are(texts.record, STEWPIGEON_TEXTS, 0));
 
     /* And it refuses every call. */
+    refilled(&line);
     KEEP(kept, line);
     memset(space, fill, sizeof space);
     EXPECT(stewpigeon_sender_offer_in(sender, texts.record, 0, space, 1) == STEWPIGEON_REFUSED_BUFFERING);
