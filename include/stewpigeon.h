@@ -55,8 +55,8 @@ enum stewpigeon_refusal {
 struct stewpigeon_receiver {
     uint8_t t140;
     uint8_t red;
-    uint8_t has_source; /* a flag: a packet was accepted, and what follows counts */
-    uint32_t source;    /* its source */
+    uint8_t has_source; /* a flag: 0 until a packet was accepted; any other value counts as 1 */
+    uint32_t source;    /* of that packet */
     uint16_t expected;  /* the sequence number that is expected next */
 };
 
@@ -87,8 +87,8 @@ struct stewpigeon_settings {
 };
 
 struct stewpigeon_progress {
-    uint8_t sent;       /* a flag: a packet was sent */
-    uint64_t last;      /* when the last one was */
+    uint8_t sent;       /* a flag: 0 until a packet was sent; any other value counts as 1 */
+    uint64_t last;      /* when the last one was sent */
     uint64_t last_text; /* and the last one with text */
     uint16_t next;      /* the next sequence number */
 };
