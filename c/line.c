@@ -2,6 +2,7 @@
  * A line of text from a sender over a lossy channel to a receiver: prints the record, with a mark for every block that
  * was lost for good.
  */
+#include <stdbool.h>
 #include <stdio.h>
 #include <stdlib.h>
 #include <string.h>

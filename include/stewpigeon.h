@@ -4,13 +4,14 @@
  * Link with libffi.a, which `rt staticlib ffi` writes to target/staticlib.
  *
  * Records belong to the caller, who lends them for the time of a call. Any values of their fields get an answer; only
- * a record that the opening filled and nobody else wrote to does what a line should. No pointer may be null, also
- * where a length is 0, and what one call is lent must not overlap. Calls on different records may run at once.
+ * a record that the opening filled and nobody else wrote to does what a line should. In a flag 0 is false and all else
+ * true. A refusal changes nothing: every byte that was lent stays, in records, texts and space. Only an opening writes
+ * where it is refused: zeros. No pointer may be null, also where a length is 0, and what one call is lent must not
+ * overlap. Calls on different records may run at once.
  */
 #ifndef STEWPIGEON_H
 #define STEWPIGEON_H
 
-#include <stdbool.h>
 #include <stddef.h>
 #include <stdint.h>
 
@@ -40,8 +41,7 @@ enum stewpigeon_refusal {
     STEWPIGEON_REFUSED_BLOCK_COUNT = 18,   /* a fifth older block */
     STEWPIGEON_REFUSED_BLOCK_TYPE = 19,    /* a block's type is not T140 */
     STEWPIGEON_REFUSED_BLOCK_LENGTHS = 20, /* the older blocks' lengths pass the end */
-    STEWPIGEON_REFUSED_BLOCK_TEXT = 21,    /* a block is not UTF-8 */
-    STEWPIGEON_NO_SPACE = 255              /* stewpigeon_read, stewpigeon_text: too few numbers lent for the answer */
+    STEWPIGEON_REFUSED_BLOCK_TEXT = 21     /* a block is not UTF-8 */
 };
 
 #define STEWPIGEON_LEVELS 4         /* the highest number of repeats */
@@ -51,20 +51,20 @@ enum stewpigeon_refusal {
 #define STEWPIGEON_LONGEST 1472     /* and the longest; no packet that is written is longer */
 #define STEWPIGEON_MARK 3           /* the bytes of a loss mark, EF BF BD */
 
-/* A receiver. `expected` is the sequence number that is expected next, once a packet was accepted (`has_source`). */
+/* A receiver. */
 struct stewpigeon_receiver {
     uint8_t t140;
     uint8_t red;
-    bool has_source;
-    uint32_t source;
-    uint16_t expected;
+    uint8_t has_source; /* a flag: 0 until a packet was accepted; any other value counts as 1 */
+    uint32_t source;    /* of that packet */
+    uint16_t expected;  /* the sequence number that is expected next */
 };
 
 #define STEWPIGEON_RECEIVER_SIZE 12
 
-/* What the receiver's step says of an accepted packet; all zeros where it is refused. */
+/* What the receiver's step says of an accepted packet. */
 struct stewpigeon_step {
-    uint8_t late;     /* 1: late, or a copy; it gives nothing */
+    uint8_t late;     /* 1: late, or a copy; it gives nothing, and all but the distance is 0. Else 0 */
     uint16_t loss;    /* how many blocks were lost before it: so many marks stand before its text */
     int16_t distance; /* how far it is from the expected number; below 0 where it is late */
     size_t older;     /* how many older blocks the packet has */
@@ -87,8 +87,8 @@ struct stewpigeon_settings {
 };
 
 struct stewpigeon_progress {
-    bool sent;          /* whether a packet was sent */
-    uint64_t last;      /* when the last one was */
+    uint8_t sent;       /* a flag: 0 until a packet was sent; any other value counts as 1 */
+    uint64_t last;      /* when the last one was sent */
     uint64_t last_text; /* and the last one with text */
     uint16_t next;      /* the next sequence number */
 };
@@ -122,12 +122,13 @@ struct stewpigeon_sender {
 
 #define STEWPIGEON_SENDER_SIZE 968
 
-/* Opens a receiver. Answers 0, or 3 and a receiver of all zeros. */
+/* Opens a receiver. Answers 0; or 3, and then the receiver is all zeros. */
 uint8_t stewpigeon_receiver_open(struct stewpigeon_receiver *receiver, uint8_t t140, uint8_t red);
 
 /*
- * Gives a packet to the receiver, which moves on in place. Answers 0 where the packet is accepted, late or not; else
- * the refusal's number, and then the receiver stays as it was.
+ * Gives a packet to the receiver. Answers 0 where it is accepted, and writes the step; the receiver moves on in place,
+ * and `has_source` is 1, or it stays where the packet is late. Else answers the refusal's number, and then receiver and
+ * step stay.
  */
 uint8_t stewpigeon_receiver_step(struct stewpigeon_receiver *receiver, const uint8_t *packet, size_t packet_len,
                                  struct stewpigeon_step *step);
@@ -139,8 +140,8 @@ uint8_t stewpigeon_receiver_step(struct stewpigeon_receiver *receiver, const uin
 size_t stewpigeon_write_marks(size_t count, uint8_t *space, size_t space_len);
 
 /*
- * The three calls of a sender, described below, on a record and on texts that lie elsewhere. An opening makes the texts
- * all zeros, an accepted offer writes its text behind what waits, and nothing else writes to them.
+ * The three calls of a sender, described below, on a record and on texts that lie elsewhere. An opening, also a refused
+ * one, makes the texts all zeros, an accepted offer writes its text behind what waits, and nothing else writes to them.
  */
 uint8_t stewpigeon_sender_open_in(struct stewpigeon_sender_record *record, uint8_t texts[STEWPIGEON_TEXTS],
                                   size_t level, uint64_t buffering, uint8_t t140, uint8_t red, uint16_t sequence,
@@ -152,7 +153,7 @@ uint8_t stewpigeon_sender_offer_in(struct stewpigeon_sender_record *record, uint
 int64_t stewpigeon_sender_clock_in(struct stewpigeon_sender_record *record, const uint8_t texts[STEWPIGEON_TEXTS],
                                    uint64_t clock, uint8_t *space, size_t space_len);
 
-/* Opens a sender, at clock 0. Answers 0, or 1, 2 or 3 and a sender of all zeros. */
+/* Opens a sender, at clock 0. Answers 0; or 1, 2 or 3, and then the sender is all zeros. */
 static inline uint8_t stewpigeon_sender_open(struct stewpigeon_sender *sender, size_t level, uint64_t buffering,
                                              uint8_t t140, uint8_t red, uint16_t sequence, uint32_t timestamp,
                                              uint32_t source)
@@ -169,8 +170,9 @@ static inline uint8_t stewpigeon_sender_offer(struct stewpigeon_sender *sender, 
 }
 
 /*
- * Tells the sender the clock. Answers the length of the packet, written to the front of the space, if one is due; 0
- * where none is; or the refusal's number below 0, and then sender and space stay. Bytes past the packet stay.
+ * Tells the sender the clock. Answers the length of the packet, written to the front of the space, if one is due, and
+ * `sent` is 1; 0 where none is, and then the sender keeps the clock and no more is written; or the refusal's number
+ * below 0, and then sender and space stay. Bytes past the packet stay.
  */
 static inline int64_t stewpigeon_sender_clock(struct stewpigeon_sender *sender, uint64_t clock, uint8_t *space,
                                               size_t space_len)
@@ -178,22 +180,45 @@ static inline int64_t stewpigeon_sender_clock(struct stewpigeon_sender *sender, 
     return stewpigeon_sender_clock_in(&sender->record, sender->texts, clock, space, space_len);
 }
 
-#define STEWPIGEON_READ_NUMBERS 19
+/* An older block of a packet. */
+struct stewpigeon_block {
+    uint16_t offset; /* its time offset, in ms */
+    size_t at;       /* where it starts in the packet */
+    size_t len;      /* and its length */
+};
+
+/* What an accepted packet holds. */
+struct stewpigeon_packet {
+    uint8_t marker; /* the M bit, 0 or 1 */
+    uint16_t sequence;
+    uint32_t timestamp;
+    uint32_t source;
+    size_t count;                                     /* how many older blocks there are */
+    struct stewpigeon_block older[STEWPIGEON_LEVELS]; /* oldest first; zeros past the count */
+    size_t primary;                                   /* where the primary starts */
+    size_t end;                                       /* and ends */
+};
+
+#define STEWPIGEON_PACKET_SIZE 136
 
 /*
- * Reads a packet by itself. With `expects` 0 any source is accepted, else only `source`. Answers 0 or the refusal's
- * number. `answer` gets marker, sequence number, timestamp, source, the number of older blocks, where the primary
- * starts and ends; then time offset, place and length of each of four older blocks, oldest first; all zeros where the
- * packet is refused. Answers 255 where fewer than 19 numbers are lent, and these stay.
+ * Reads a packet by itself. With `expects` 0 any source is accepted, else only `source`. Answers 0, and the packet in
+ * *answer; else the refusal's number, and then *answer stays.
  */
 uint8_t stewpigeon_read(uint8_t expects, uint32_t source, uint8_t t140, uint8_t red, const uint8_t *packet,
-                        size_t packet_len, uint64_t *answer, size_t answer_len);
+                        size_t packet_len, struct stewpigeon_packet *answer);
 
-/*
- * Whether bytes are UTF-8: 0, and the number of characters; or 1, and the place of the first byte at which they can no
- * longer be. Answers 255 where no number is lent.
- */
-uint8_t stewpigeon_text(const uint8_t *bytes, size_t bytes_len, uint64_t *answer, size_t answer_len);
+/* What bytes are as UTF-8. */
+struct stewpigeon_text_answer {
+    uint8_t is_text;   /* 1 where they are UTF-8, else 0 */
+    size_t characters; /* where they are, how many characters; else 0 */
+    size_t place;      /* where they are not, the first byte at which they can no longer be, or their end; else 0 */
+};
+
+#define STEWPIGEON_TEXT_ANSWER_SIZE 24
+
+/* Looks whether bytes are UTF-8. There is no refusal. */
+void stewpigeon_text(const uint8_t *bytes, size_t bytes_len, struct stewpigeon_text_answer *answer);
 
 #ifdef __cplusplus
 }

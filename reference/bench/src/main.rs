@@ -23,7 +23,10 @@ const PACKETS: usize = 1_000_000;
 const OFTEN: (u64, u64) = (Schedule::OFTEN, 500_000);
 const SELDOM: (u64, u64) = (Schedule::SELDOM, 200_000);
 
-const USAGE: &str = "usage: bench\n       bench offers|sending|quiet LEVEL TIMES";
+const USAGE: &str = "\
+usage: bench
+       bench offers|sending|quiet LEVEL TIMES
+LEVEL is 0 to 4.";
 
 fn schedule((pace, calls): (u64, u64)) -> Schedule {
     Schedule::new(SEED, pace, calls)
@@ -43,7 +46,8 @@ fn times() {
 
 /// Makes a sender's calls of one kind at a level, so many times over.
 fn calls(kind: &str, level: &str, times: &str) -> Option<usize> {
-    let (level, times) = (level.parse().ok()?, times.parse().ok()?);
+    let level = level.parse().ok().filter(|level| *level <= Sender::LEVEL)?;
+    let times = times.parse().ok()?;
     sending::repeated(kind, level, &schedule(OFTEN), times)
 }
 

@@ -7,15 +7,17 @@ use stewpigeon::lent;
 
 fn proved(packets: &Packets) -> u64 {
     let mut sum = 0;
-    let mut answer = [0; lent::ANSWER];
+    let mut answer = lent::Packet::ZERO;
     for packet in packets.iter() {
         let number = lent::read_into(0, 0, 98, 100, packet, &mut answer);
         let mut figure = u64::from(number);
         if number == 0 {
-            let [marker, sequence, timestamp, source, count, start, end, older @ ..] = &answer;
-            figure += marker + 2 * sequence + 3 * timestamp + 5 * source + 7 * start + 9 * end;
-            for older in older.chunks_exact(3).take(*count as usize) {
-                figure += older[0] + 2 * older[1] + 3 * older[2];
+            figure += u64::from(answer.marker) + 2 * u64::from(answer.sequence);
+            figure += 3 * u64::from(answer.timestamp) + 5 * u64::from(answer.source);
+            figure += 7 * answer.primary as u64 + 9 * answer.end as u64;
+            for older in &answer.older[..answer.count] {
+                figure += u64::from(older.offset);
+                figure += 2 * older.at as u64 + 3 * older.len as u64;
             }
         }
         sum = add(sum, figure);
@@ -69,9 +71,10 @@ pub fn packets(packets: &Packets) {
 }
 
 fn proved_text(text: &[u8]) -> u64 {
-    let mut answer = [0];
-    assert_eq!(lent::text_into(text, &mut answer), 0);
-    answer[0]
+    let mut answer = lent::TextAnswer::ZERO;
+    lent::text_into(text, &mut answer);
+    assert_eq!(answer.is_text, 1);
+    answer.characters as u64
 }
 
 #[inline(never)]

@@ -19,8 +19,11 @@ fn proved(packets: &Packets) -> u64 {
     let mut step = lent::Step::ZERO;
     let mut sum = 0;
     for packet in packets.iter() {
-        let number = lent::receiver_step(&mut receiver, packet, &mut step);
-        sum = add(sum, u64::from(number).wrapping_add(figure(&step)));
+        let figure = match lent::receiver_step(&mut receiver, packet, &mut step) {
+            0 => figure(&step),
+            number => u64::from(number),
+        };
+        sum = add(sum, figure);
     }
     sum
 }
@@ -35,12 +38,12 @@ fn independent(packets: &Packets) -> u64 {
     let mut sum = 0;
     for packet in packets.iter() {
         let mut step = lent::Step::ZERO;
-        let mut refused = 0;
-        match independent_step(&mut receiver, packet) {
-            Answer::Refused(number) => refused = u64::from(number),
+        let figure = match independent_step(&mut receiver, packet) {
+            Answer::Refused(number) => u64::from(number),
             Answer::Late { distance } => {
                 step.late = 1;
                 step.distance = distance as i16;
+                figure(&step)
             }
             Answer::Forward(forward) => {
                 step.loss = forward.loss;
@@ -48,9 +51,10 @@ fn independent(packets: &Packets) -> u64 {
                 step.older = forward.older();
                 step.given = forward.wanted + 1;
                 (step.from, step.to) = forward.place();
+                figure(&step)
             }
-        }
-        sum = add(sum, refused.wrapping_add(figure(&step)));
+        };
+        sum = add(sum, figure);
     }
     sum
 }

@@ -1,17 +1,20 @@
 //! One packet or text given to both readers.
 
 use std::fmt::{self, Display, Formatter};
+use std::hint::black_box;
 
+use crate::patterns::{filled, Lent};
 use crate::plan::{Plan, RED, T140};
 use crate::random::Random;
-use stewpigeon::lent::{self, ANSWER, SHORT_ANSWER};
+use independent::Contents;
+use stewpigeon::lent;
 
 /// What is known beforehand of a result.
 #[derive(Clone, Copy, Debug, PartialEq, Eq)]
 pub enum Known {
     Nothing,
     Refusal(u8),
-    Answer([u64; ANSWER]),
+    Answer(lent::Packet),
 }
 
 /// A packet and the settings it is read with.
@@ -22,13 +25,11 @@ pub struct Case {
     pub t140: u8,
     pub red: u8,
     pub packet: Vec<u8>,
-    /// How many numbers are lent for the answer.
-    pub lent: usize,
     pub known: Known,
 }
 
 impl Case {
-    /// Any source, the usual payload types, and at times a longer answer.
+    /// Any source and the usual payload types.
     pub fn new(random: &mut Random, packet: Vec<u8>, known: Known) -> Case {
         Case {
             expects: 0,
@@ -36,7 +37,6 @@ impl Case {
             t140: T140,
             red: RED,
             packet,
-            lent: ANSWER + random.below(6),
             known,
         }
     }
@@ -70,88 +70,88 @@ pub fn hex(bytes: &[u8]) -> String {
     bytes.iter().map(|byte| format!("{byte:02x}")).collect()
 }
 
-/// An answer and the numbers around it, the untouched ones as `_`.
-fn shown(numbers: &[u64], canary: u64) -> String {
-    let shown = numbers.iter().map(|number| match *number {
-        number if number == canary => "_".to_string(),
-        number => number.to_string(),
-    });
-    shown.collect::<Vec<String>>().join(" ")
-}
-
-/// The second reader's number and answer, as the proved one must give them.
-fn independently(case: &Case) -> (u8, [u64; ANSWER]) {
-    let expected = (case.expects != 0).then_some(case.source);
-    match independent::read(expected, case.t140, case.red, &case.packet) {
-        Ok(packet) => (0, packet.numbers()),
-        Err(refusal) => (refusal, [0; ANSWER]),
+/// The library's answer to a packet that holds this.
+pub fn answer(contents: &Contents<'_>) -> lent::Packet {
+    let mut older = [lent::Block::ZERO; 4];
+    for (block, place) in older.iter_mut().zip(contents.older) {
+        *block = lent::Block {
+            offset: place.offset,
+            at: place.start.into(),
+            len: place.length.into(),
+        };
+    }
+    lent::Packet {
+        marker: contents.marker.into(),
+        sequence: contents.sequence,
+        timestamp: contents.timestamp,
+        source: contents.source,
+        count: contents.older.len(),
+        older,
+        primary: contents.start.into(),
+        end: contents.end.into(),
     }
 }
 
-const BEFORE: usize = 3;
-const AFTER: usize = 8;
+/// The second reader's answer, as the proved one must give it.
+fn independently(case: &Case) -> Result<lent::Packet, u8> {
+    let expected = (case.expects != 0).then_some(case.source);
+    let read = independent::read(expected, case.t140, case.red, &case.packet);
+    read.map(|packet| answer(&packet.contents()))
+}
 
-/// Gives a case to both readers and gives the number both answered (255 where
-/// the lent answer is short).
+/// Gives a case to both readers and gives the number both answered.
 pub fn check(random: &mut Random, case: &Case) -> Result<u8, Difference> {
-    let (number, numbers) = independently(case);
-
-    // The packet lies among other bytes, the answer among other numbers.
-    let (before, after) = (random.below(9), random.below(9));
-    let mut around = random.bytes(before);
-    around.extend(&case.packet);
-    around.extend(random.bytes(after));
-    let untouched = around.clone();
-    let canary = random.number() | 1;
-    let mut lent = vec![canary; BEFORE + case.lent + AFTER];
-
-    let proved = lent::read_into(
+    let wanted = independently(case);
+    let packet = Lent::new(random, &case.packet);
+    let mut lent = filled(random);
+    let before = (packet.clone(), lent.clone());
+    let number = lent::read_into(
         case.expects,
         case.source,
         case.t140,
         case.red,
-        &around[before..before + case.packet.len()],
-        &mut lent[BEFORE..BEFORE + case.lent],
+        packet.bytes(),
+        &mut lent,
     );
-
-    let short = case.lent < ANSWER;
-    let mut wanted = vec![canary; lent.len()];
-    if !short {
-        wanted[BEFORE..BEFORE + ANSWER].copy_from_slice(&numbers);
-    }
-    let wanted_number = if short { SHORT_ANSWER } else { number };
+    let proved = match number {
+        0 => Ok(lent.value()),
+        refusal => Err(refusal),
+    };
     let known = match case.known {
         Known::Nothing => true,
-        Known::Refusal(refusal) => number == refusal,
-        Known::Answer(answer) => number == 0 && numbers == answer,
+        Known::Refusal(refusal) => wanted == Err(refusal),
+        Known::Answer(answer) => wanted == Ok(answer),
     };
-    let what = if proved != wanted_number {
-        "the readers answer different numbers"
-    } else if lent != wanted {
-        "the answers, or the numbers around them, differ"
-    } else if around != untouched {
+    let what = if proved != wanted {
+        "the answers differ"
+    } else if number != 0 && lent.bytes() != before.1.bytes() {
+        "a refusal changed bytes of the answer or around it"
+    } else if lent.around() != before.1.around() {
+        "the proved reader changed bytes around the answer"
+    } else if *black_box(&packet) != before.0 {
         "the proved reader changed bytes of the packet or around it"
     } else if !known {
         "both readers agree, but not with what is known of the packet"
     } else {
-        return Ok(wanted_number);
+        return Ok(number);
     };
     let details = format!(
         "packet ({} bytes): {}\n\
-         expects {} source {:#010x} T140 {} RED {} lent {}\n\
-         proved:      {proved}, {}\n\
-         independent: {wanted_number}, {}\n\
-         known:       {:?}",
+         expects {} source {:#010x} T140 {} RED {}\n\
+         proved:      {proved:?}\n\
+         independent: {wanted:?}\n\
+         known:       {:?}\n\
+         lent before: {}\n\
+         afterwards:  {}",
         case.packet.len(),
         hex(&case.packet),
         case.expects,
         case.source,
         case.t140,
         case.red,
-        case.lent,
-        shown(&lent, canary),
-        shown(&wanted, canary),
         case.known,
+        hex(before.1.bytes()),
+        hex(lent.bytes()),
     );
     Err(Difference { what, details })
 }
@@ -160,45 +160,31 @@ pub fn check(random: &mut Random, case: &Case) -> Result<u8, Difference> {
 pub fn check_text(random: &mut Random, text: &[u8]) -> Result<bool, Difference> {
     let independent = independent::text(text);
     let standard = std::str::from_utf8(text).map(|text| text.chars().count());
-    let before = random.below(9);
-    let mut around = random.bytes(before);
-    around.extend(text);
-    around.extend(random.bytes(4));
-    let untouched = around.clone();
-    let canary = random.number() | 1 << 63;
-    let size = if random.once_in(8) {
-        0
-    } else {
-        random.within(1, 3)
+    let wanted = lent::TextAnswer {
+        is_text: independent.is_ok().into(),
+        characters: independent.unwrap_or(0),
+        place: independent.err().unwrap_or(0),
     };
-    let mut lent = vec![canary; 1 + size + 2];
-
-    let place = before..before + text.len();
-    let proved = lent::text_into(&around[place], &mut lent[1..1 + size]);
-
-    let mut wanted = vec![canary; lent.len()];
-    let mut wanted_number = SHORT_ANSWER;
-    if size > 0 {
-        wanted_number = u8::from(independent.is_err());
-        wanted[1] = independent.unwrap_or_else(|place| place) as u64;
-    }
+    let bytes = Lent::new(random, text);
+    let mut lent = filled(random);
+    let before = (bytes.clone(), lent.clone());
+    lent::text_into(bytes.bytes(), &mut lent);
     let what = if independent.ok() != standard.ok() {
         "the independent check and the standard library's differ"
-    } else if proved != wanted_number || lent != wanted {
-        "the answers to the text, or the numbers around them, differ"
-    } else if around != untouched {
+    } else if lent.value() != wanted {
+        "the answers to the text differ"
+    } else if lent.around() != before.1.around() {
+        "the proved check changed bytes around the answer"
+    } else if *black_box(&bytes) != before.0 {
         "the proved check changed bytes of the text or around it"
     } else {
         return Ok(independent.is_ok());
     };
     let details = format!(
-        "text ({} bytes): {}\nlent {size}\n\
-         proved:      {proved}, {}\n\
-         independent: {wanted_number}, {}",
+        "text ({} bytes): {}\nproved:      {:?}\nindependent: {wanted:?}",
         text.len(),
         hex(text),
-        shown(&lent, canary),
-        shown(&wanted, canary),
+        lent.value(),
     );
     Err(Difference { what, details })
 }

@@ -15,7 +15,7 @@ const fn kind(name: &'static str, batch: fn(&mut Random) -> Vec<Case>) -> Kind {
     Kind { name, batch }
 }
 
-pub const KINDS: [Kind; 20] = [
+pub const KINDS: [Kind; 19] = [
     kind("valid T140", valid_t140),
     kind("valid RED, 0 to 4 older blocks", valid_red),
     kind("mutated", mutated),
@@ -31,7 +31,6 @@ pub const KINDS: [Kind; 20] = [
     kind("payload type settings", settings),
     kind("packet's payload type", payload_types),
     kind("expected source", expected_source),
-    kind("short lent answer", short_answer),
     kind("uniformly random bytes", random_bytes),
     kind("random payload", random_payload),
     kind("prefixes of the captures", capture_prefixes),
@@ -140,7 +139,8 @@ fn payload_types(random: &mut Random) -> Vec<Case> {
 /// for a bad one.
 fn expected_source(random: &mut Random) -> Vec<Case> {
     let plan = Plan::good(random);
-    let expects = random.pick(&[1, 1, 2, 128, 255]);
+    let any = random.within(1, 255) as u8;
+    let expects = random.pick(&[1, 128, 255, any]);
     let mut same = Case::accepted(random, &plan);
     same.expects = expects;
     same.source = plan.source;
@@ -153,23 +153,6 @@ fn expected_source(random: &mut Random) -> Vec<Case> {
     let mut mutated_other = mutated.clone();
     mutated_other.source = other.source;
     vec![same, other, mutated, mutated_other]
-}
-
-fn short_answer(random: &mut Random) -> Vec<Case> {
-    let mut packet = Plan::good(random).bytes();
-    if random.once_in(2) {
-        packet = damage::mutate(random, packet);
-    }
-    let mut case = Case::open(random, packet);
-    if random.once_in(8) {
-        case.red = case.t140;
-    }
-    (0..19)
-        .map(|lent| Case {
-            lent,
-            ..case.clone()
-        })
-        .collect()
 }
 
 fn random_bytes(random: &mut Random) -> Vec<Case> {

@@ -8,6 +8,7 @@ pub mod check;
 pub mod damage;
 pub mod kinds;
 pub mod output;
+mod patterns;
 pub mod plan;
 pub mod run;
 mod shapes;

@@ -21,7 +21,10 @@ and stops at the first difference.
   --random-seed   take a seed from the clock and print it
   --packets N     give at least N packets to the readers (default 500000)
   --calls N       make at least N calls of each other kind (default 200000)
-  --help          print this text";
+  --help          print this text
+
+The exit status is 0 where nothing differs and all is met, 1 otherwise, 2 where
+the arguments are wrong, and 141 where nobody reads the output any more.";
 
 struct Options {
     seed: u64,
@@ -69,7 +72,7 @@ fn print(counts: &Counts) {
     for (name, count) in &counts.named {
         say!("{count:>9}  {name}");
     }
-    say!("\n  packets  kind: answers (0 is accepted, 255 a short lent answer)");
+    say!("\n  packets  kind: answers (0 is accepted, others are refusals)");
     for (name, numbers) in &counts.kinds {
         let total: usize = numbers.values().sum();
         let answers: Vec<String> = numbers.iter().map(|(k, n)| format!("{k}:{n}")).collect();

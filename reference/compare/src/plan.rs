@@ -2,6 +2,7 @@
 //! without reading them.
 
 use crate::random::Random;
+use stewpigeon::lent::{Block, Packet};
 
 pub const T140: u8 = 98;
 pub const RED: u8 = 100;
@@ -168,23 +169,27 @@ impl Plan {
     }
 
     /// The answer due to these parts, where they make a good packet.
-    pub fn answer(&self) -> [u64; 19] {
-        let mut answer = [0; 19];
+    pub fn answer(&self) -> Packet {
         let mut place = self.blocks();
-        for (older, numbers) in self.older.iter().zip(answer[7..].chunks_exact_mut(3)) {
-            numbers[0] = u64::from(older.0);
-            numbers[1] = place as u64;
-            numbers[2] = older.1.len() as u64;
-            place += older.1.len();
+        let mut older = [Block::ZERO; 4];
+        for (block, (offset, text)) in older.iter_mut().zip(&self.older) {
+            *block = Block {
+                offset: *offset,
+                at: place,
+                len: text.len(),
+            };
+            place += text.len();
         }
-        answer[0] = u64::from(self.marker);
-        answer[1] = u64::from(self.sequence);
-        answer[2] = u64::from(self.timestamp);
-        answer[3] = u64::from(self.source);
-        answer[4] = self.older.len() as u64;
-        answer[5] = place as u64;
-        answer[6] = (place + self.primary.len()) as u64;
-        answer
+        Packet {
+            marker: self.marker.into(),
+            sequence: self.sequence,
+            timestamp: self.timestamp,
+            source: self.source,
+            count: self.older.len(),
+            older,
+            primary: place,
+            end: place + self.primary.len(),
+        }
     }
 }
 

@@ -2,12 +2,11 @@
 
 use std::collections::BTreeMap;
 
-use crate::check::{check, Case, Known};
+use crate::check::{answer, check, Case, Known};
 use crate::kinds::KINDS;
 use crate::random::Random;
 use crate::{captures, texts};
 use independent::{paper, refusal};
-use stewpigeon::lent::SHORT_ANSWER;
 
 /// How often each number was answered; 0 is acceptance.
 pub type Numbers = BTreeMap<u8, usize>;
@@ -35,7 +34,7 @@ impl Counts {
     pub fn missing(&self) -> Vec<String> {
         let numbers = self.numbers();
         let mut missing = vec![];
-        for number in refusal::ALL.into_iter().chain([0, SHORT_ANSWER]) {
+        for number in refusal::ALL.into_iter().chain([0]) {
             if !numbers.contains_key(&number) {
                 missing.push(format!("no generated packet was answered {number}"));
             }
@@ -58,9 +57,9 @@ impl Counts {
 fn paper_cases(random: &mut Random) -> Result<usize, String> {
     let cases = paper::cases();
     for paper in &cases {
-        let known = match paper.numbers() {
-            Ok(answer) => Known::Answer(answer),
-            Err(refusal) => Known::Refusal(refusal),
+        let known = match &paper.result {
+            Ok(contents) => Known::Answer(answer(contents)),
+            Err(refusal) => Known::Refusal(*refusal),
         };
         let case = Case {
             expects: u8::from(paper.expected.is_some()),

@@ -18,7 +18,7 @@ fn closed_output() {
     for arguments in [&[][..], &["--help"]] {
         let output = unread(arguments);
         assert_eq!(String::from_utf8(output.stderr).unwrap(), "");
-        assert_eq!(output.status.code(), Some(0), "{arguments:?}");
+        assert_eq!(output.status.code(), Some(141), "{arguments:?}");
     }
 }
 

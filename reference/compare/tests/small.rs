@@ -48,3 +48,18 @@ fn answers_never_given_are_named() {
     assert!(!missing.contains(&"sender clock was never answered sent".to_string()));
     assert!(missing.contains(&"never met: a blue moon".to_string()));
 }
+
+#[test]
+fn values_of_flags_never_met_are_named() {
+    let mut tally = Tally::default();
+    for value in 0..=255 {
+        tally.flag(Call::Step, Answer::Done("late"), value);
+        if value != 77 {
+            tally.flag(Call::Offer, Answer::Refused(7), value);
+        }
+    }
+    let missing = tally.missing().join("\n");
+    assert!(!missing.contains("receiver step, late: has_source"));
+    assert!(missing.contains("receiver step, forward: has_source was never [0, 1, 2, "));
+    assert!(missing.contains("sender offer, refused: sent was never [77]"));
+}

@@ -52,6 +52,21 @@ pub struct Packet<'a> {
     pub end: u16,
 }
 
+/// What an accepted packet holds, its blocks as places in it.
+#[derive(Clone, Copy, Debug, PartialEq, Eq)]
+pub struct Contents<'a> {
+    pub marker: bool,
+    pub sequence: u16,
+    pub timestamp: u32,
+    pub source: u32,
+    /// The older blocks, oldest first.
+    pub older: &'a [Older],
+    /// Where the primary starts.
+    pub start: u16,
+    /// Where the primary ends.
+    pub end: u16,
+}
+
 impl<'a> Packet<'a> {
     /// The older blocks, oldest first.
     #[inline]
@@ -71,22 +86,17 @@ impl<'a> Packet<'a> {
         &self.bytes[usize::from(self.start)..usize::from(self.end)]
     }
 
-    /// The packet as the 19 numbers of the proved library's answer.
-    pub fn numbers(&self) -> [u64; 19] {
-        let mut numbers = [0; 19];
-        numbers[0] = u64::from(self.marker);
-        numbers[1] = u64::from(self.sequence);
-        numbers[2] = u64::from(self.timestamp);
-        numbers[3] = u64::from(self.source);
-        numbers[4] = u64::from(self.count);
-        numbers[5] = u64::from(self.start);
-        numbers[6] = u64::from(self.end);
-        for (older, numbers) in self.older().iter().zip(numbers[7..].chunks_exact_mut(3)) {
-            numbers[0] = u64::from(older.offset);
-            numbers[1] = u64::from(older.start);
-            numbers[2] = u64::from(older.length);
+    #[inline]
+    pub fn contents(&self) -> Contents<'_> {
+        Contents {
+            marker: self.marker,
+            sequence: self.sequence,
+            timestamp: self.timestamp,
+            source: self.source,
+            older: self.older(),
+            start: self.start,
+            end: self.end,
         }
-        numbers
     }
 }
 

@@ -1,6 +1,11 @@
 //! The scope paper's cases for a reader, with the results it names, and one
 //! case for each pair of checks whose order it fixes. T140 is 98, RED 100.
 
+use crate::{Contents, Older};
+
+/// What an accepted packet holds, or the refusal.
+type Outcome = Result<Contents<'static>, u8>;
+
 /// A packet, the settings it is read with and what must come of it.
 pub struct Case {
     pub name: &'static str,
@@ -8,21 +13,10 @@ pub struct Case {
     pub t140: u8,
     pub red: u8,
     pub packet: Vec<u8>,
-    /// The first numbers of the answer, the rest being 0; or the refusal.
-    pub result: Result<&'static [u64], u8>,
+    pub result: Outcome,
 }
 
-impl Case {
-    /// All 19 numbers, or the refusal.
-    pub fn numbers(&self) -> Result<[u64; 19], u8> {
-        let first = self.result?;
-        let mut numbers = [0; 19];
-        numbers[..first.len()].copy_from_slice(first);
-        Ok(numbers)
-    }
-}
-
-fn case(name: &'static str, packet: Vec<u8>, result: Result<&'static [u64], u8>) -> Case {
+fn case(name: &'static str, packet: Vec<u8>, result: Outcome) -> Case {
     Case {
         name,
         expected: None,
@@ -30,6 +24,32 @@ fn case(name: &'static str, packet: Vec<u8>, result: Result<&'static [u64], u8>)
         red: 100,
         packet,
         result,
+    }
+}
+
+/// Numbers of 0 and a primary from `start` to `end`.
+fn primary(start: u16, end: u16) -> Contents<'static> {
+    behind(&[], start, end)
+}
+
+/// The same behind older blocks.
+const fn behind(older: &'static [Older], start: u16, end: u16) -> Contents<'static> {
+    Contents {
+        marker: false,
+        sequence: 0,
+        timestamp: 0,
+        source: 0,
+        older,
+        start,
+        end,
+    }
+}
+
+const fn older(offset: u16, start: u16, length: u16) -> Older {
+    Older {
+        offset,
+        start,
+        length,
     }
 }
 
@@ -65,6 +85,13 @@ const T3: [u8; 18] = [
     0x62, 0x41,
 ];
 
+const T3_HOLDS: Contents<'static> = Contents {
+    sequence: 5,
+    timestamp: 1000,
+    source: 0x11223344,
+    ..behind(&[older(300, 17, 1)], 18, 18)
+};
+
 /// T1, T2, T3, T9, T10 and the cases that are run only.
 fn line_tests() -> Vec<Case> {
     let surrogate = [0xed, 0xa0, 0x80];
@@ -75,41 +102,33 @@ fn line_tests() -> Vec<Case> {
     let full_red = [&[0x62], &letters[..1459]].concat();
     vec![
         case("T1", vec![], Err(10)),
-        case("T2", t140(&[]), Ok(&[0, 0, 0, 0, 0, 12, 12])),
-        case(
-            "T3",
-            T3.to_vec(),
-            Ok(&[0, 5, 1000, 0x11223344, 1, 18, 18, 300, 17, 1]),
-        ),
+        case("T2", t140(&[]), Ok(primary(12, 12))),
+        case("T3", T3.to_vec(), Ok(T3_HOLDS)),
         case("T9 in T140", t140(&surrogate), Err(21)),
         case("T9 in a primary", one_older(b"", &surrogate), Err(21)),
         case("T9 in an older block", one_older(&surrogate, b""), Err(21)),
-        case("T10 in T140", t140(&last), Ok(&[0, 0, 0, 0, 0, 12, 16])),
+        case("T10 in T140", t140(&last), Ok(primary(12, 16))),
         case(
             "T10 in a primary",
             one_older(b"", &last),
-            Ok(&[0, 0, 0, 0, 1, 17, 21, 0, 17, 0]),
+            Ok(behind(const { &[older(0, 17, 0)] }, 17, 21)),
         ),
         case(
             "T10 in an older block",
             one_older(&last, b""),
-            Ok(&[0, 0, 0, 0, 1, 21, 21, 0, 17, 4]),
+            Ok(behind(const { &[older(0, 17, 4)] }, 21, 21)),
         ),
         case(
             "1,472 bytes of T140",
             t140(&letters[..1460]),
-            Ok(&[0, 0, 0, 0, 0, 12, 1472]),
+            Ok(primary(12, 1472)),
         ),
-        case(
-            "1,472 bytes of RED",
-            red(&full_red),
-            Ok(&[0, 0, 0, 0, 0, 13, 1472]),
-        ),
+        case("1,472 bytes of RED", red(&full_red), Ok(primary(13, 1472))),
         case("1,473 bytes", t140(&letters), Err(11)),
         case(
             "padding equal to the payload in T140",
             packet([0xa0, 0x62], &[0x41, 0x41, 3]),
-            Ok(&[0, 0, 0, 0, 0, 12, 12]),
+            Ok(primary(12, 12)),
         ),
         case(
             "padding equal to the payload in RED",
@@ -161,7 +180,7 @@ fn headers() -> Vec<Case> {
         case(
             "source list meets the end",
             packet([0x81, 0x62], &[0; 4]),
-            Ok(&[0, 0, 0, 0, 0, 16, 16]),
+            Ok(primary(16, 16)),
         ),
         case(
             "extension of 3 bytes",
@@ -171,7 +190,7 @@ fn headers() -> Vec<Case> {
         case(
             "extension of no word",
             packet([0x90, 0x62], &[0xbe, 0xde, 0, 0]),
-            Ok(&[0, 0, 0, 0, 0, 16, 16]),
+            Ok(primary(16, 16)),
         ),
         case(
             "extension's words pass the end",
@@ -202,7 +221,10 @@ fn headers() -> Vec<Case> {
         case(
             "padding need not be UTF-8",
             packet([0xa0, 0xe2], &[0x41, 0xff, 2]),
-            Ok(&[1, 0, 0, 0, 0, 12, 13]),
+            Ok(Contents {
+                marker: true,
+                ..primary(12, 13)
+            }),
         ),
         case("payload type 0", packet([0x80, 0x00], &[]), Err(15)),
         case("payload type 99", packet([0x80, 0xe3], &[]), Err(15)),
@@ -223,11 +245,7 @@ fn blocks() -> Vec<Case> {
         source_7("16 before 21", t140(&[0xff]), Err(16)),
         Case {
             expected: Some(0x11223344),
-            ..case(
-                "T3 with its source expected",
-                T3.to_vec(),
-                Ok(&[0, 5, 1000, 0x11223344, 1, 18, 18, 300, 17, 1]),
-            )
+            ..case("T3 with its source expected", T3.to_vec(), Ok(T3_HOLDS))
         },
         case("RED without a payload", red(&[]), Err(17)),
         case("no header of a primary", red(&[0xe2, 0, 0, 0]), Err(17)),
@@ -251,9 +269,7 @@ fn blocks() -> Vec<Case> {
         case(
             "four older blocks",
             four_older(&[0x62]),
-            Ok(&[
-                0, 0, 0, 0, 4, 29, 29, 0, 29, 0, 0, 29, 0, 0, 29, 0, 0, 29, 0,
-            ]),
+            Ok(behind(const { &[older(0, 29, 0); 4] }, 29, 29)),
         ),
         case("older type wrong", red(&[0xe3, 0, 0, 0, 0x62]), Err(19)),
         case("primary type wrong", red(&[0x64]), Err(19)),
@@ -270,7 +286,7 @@ fn blocks() -> Vec<Case> {
         case(
             "largest offset and length",
             red(&[&[0xe2, 0xff, 0xff, 0xff, 0x62][..], &[b'a'; 1023]].concat()),
-            Ok(&[0, 0, 0, 0, 1, 1040, 1040, 16383, 17, 1023]),
+            Ok(behind(const { &[older(16383, 17, 1023)] }, 1040, 1040)),
         ),
         case("letter split between two blocks", split, Err(21)),
     ]

@@ -5,12 +5,8 @@ use independent::{paper, read, refusal};
 fn every_case_of_the_paper() {
     for case in paper::cases() {
         let read = read(case.expected, case.t140, case.red, &case.packet);
-        assert_eq!(
-            read.map(|packet| packet.numbers()),
-            case.numbers(),
-            "{}",
-            case.name
-        );
+        let holds = read.as_ref().map(|packet| packet.contents());
+        assert_eq!(holds, case.result.as_ref().copied(), "{}", case.name);
     }
 }
 
@@ -51,14 +47,14 @@ fn every_case_on_a_receiver() {
             receiver.step(&first);
         }
         let before = receiver;
-        match (receiver.step(&case.packet), case.numbers()) {
+        match (receiver.step(&case.packet), case.result) {
             (Answer::Refused(number), expected) => {
                 assert_eq!(Err(number), expected, "{}", case.name);
                 assert_eq!(receiver, before, "{}", case.name);
             }
             (Answer::Late { .. }, _) => panic!("{}", case.name),
             (Answer::Forward(answer), expected) => {
-                let sequence = expected.expect(case.name)[1] as u16;
+                let sequence = expected.expect(case.name).sequence;
                 let distance = before.expected().map_or(0, |next| sequence - next);
                 assert_eq!(answer.distance, i32::from(distance), "{}", case.name);
                 assert_eq!(receiver.expected(), Some(sequence + 1), "{}", case.name);

@@ -2,31 +2,31 @@
 //! at any length, refusals as numbers. For tests and measurements; a recorder
 //! uses the crate's own types.
 //!
-//! Every call answers on every value of every field.
+//! Every call answers on every value of every field. A refusal leaves every
+//! lent byte as it was; only an opening writes where it is refused, zeros.
+//!
+//! A record is lent as itself, or [`Guarded`] among other bytes.
+
+mod guarded;
 
 use crate::library;
-pub use crate::library::{Progress, Receiver, Sender, Settings, Step, Texts};
-
-/// The numbers in an answer of [`read_into`].
-pub const ANSWER: usize = 19;
-
-/// What [`read_into`] and [`text_into`] answer where the lent answer is too
-/// short.
-pub const SHORT_ANSWER: u8 = 255;
+pub use crate::library::{
+    Block, Packet, Progress, Receiver, Sender, Settings, Step, TextAnswer, Texts,
+};
+pub use guarded::{Guarded, Lend, Record};
 
 impl Receiver {
     /// What a refused opening gives.
     pub const ZERO: Receiver = Receiver {
         t140: 0,
         red: 0,
-        has_source: false,
+        has_source: 0,
         source: 0,
         expected: 0,
     };
 }
 
 impl Step {
-    /// What a refusal gives.
     pub const ZERO: Step = Step {
         late: 0,
         loss: 0,
@@ -35,6 +35,35 @@ impl Step {
         given: 0,
         from: 0,
         to: 0,
+    };
+}
+
+impl Block {
+    pub const ZERO: Block = Block {
+        offset: 0,
+        at: 0,
+        len: 0,
+    };
+}
+
+impl Packet {
+    pub const ZERO: Packet = Packet {
+        marker: 0,
+        sequence: 0,
+        timestamp: 0,
+        source: 0,
+        count: 0,
+        older: [Block::ZERO; 4],
+        primary: 0,
+        end: 0,
+    };
+}
+
+impl TextAnswer {
+    pub const ZERO: TextAnswer = TextAnswer {
+        is_text: 0,
+        characters: 0,
+        place: 0,
     };
 }
 
@@ -58,7 +87,7 @@ impl Sender {
         ats: [0; 4],
         count: 0,
         progress: Progress {
-            sent: false,
+            sent: 0,
             last: 0,
             last_text: 0,
             next: 0,
@@ -66,12 +95,8 @@ impl Sender {
     };
 }
 
-/// Reads one packet into a lent answer and gives 0, the refusal's number, or
-/// 255 where the answer is shorter than 19. `expects` 0 accepts any source.
-///
-/// The answer: marker, sequence number, timestamp, source, number of older
-/// blocks, start and end of the primary; then timestamp offset, place and
-/// length of each of four older blocks, oldest first.
+/// Reads one packet: 0 and the packet in the lent answer, or the refusal's
+/// number and the answer as it was. `expects` 0 accepts any source.
 #[inline]
 pub fn read_into(
     expects: u8,
@@ -79,9 +104,10 @@ pub fn read_into(
     t140: u8,
     red: u8,
     packet: &[u8],
-    answer: &mut [u64],
+    answer: &mut impl Lend<Packet>,
 ) -> u8 {
-    // SAFETY: both slices are lent with their own lengths for the call only.
+    // SAFETY: the answer, and the slice with its own length, are lent for the
+    // call only.
     unsafe {
         library::stewpigeon_read(
             expects,
@@ -90,36 +116,44 @@ pub fn read_into(
             red,
             packet.as_ptr(),
             packet.len(),
-            answer.as_mut_ptr(),
-            answer.len(),
+            answer.place_mut(),
         )
     }
 }
 
-/// Checks UTF-8 into a lent answer: 0 and the number of characters, 1 and the
-/// place of the first bad byte, or 255 where the answer is empty.
+/// Looks whether bytes are UTF-8.
 #[inline]
-pub fn text_into(text: &[u8], answer: &mut [u64]) -> u8 {
-    // SAFETY: both slices are lent with their own lengths for the call only.
-    unsafe {
-        library::stewpigeon_text(text.as_ptr(), text.len(), answer.as_mut_ptr(), answer.len())
-    }
+pub fn text_into(bytes: &[u8], answer: &mut impl Lend<TextAnswer>) {
+    // SAFETY: the answer, and the slice with its own length, are lent for the
+    // call only.
+    unsafe { library::stewpigeon_text(bytes.as_ptr(), bytes.len(), answer.place_mut()) }
 }
 
 /// Opens a receiver in the lent record: 0, or 3 and a record of zeros.
 #[inline]
-pub fn receiver_open(receiver: &mut Receiver, t140: u8, red: u8) -> u8 {
+pub fn receiver_open(receiver: &mut impl Lend<Receiver>, t140: u8, red: u8) -> u8 {
     // SAFETY: the record is lent for the call only.
-    unsafe { library::stewpigeon_receiver_open(receiver, t140, red) }
+    unsafe { library::stewpigeon_receiver_open(receiver.place_mut(), t140, red) }
 }
 
-/// Gives a packet to a receiver: 0 where it is accepted, late or not, else
-/// the refusal's number.
+/// Gives a packet to a receiver: 0 and the step where it is accepted, late or
+/// not, else the refusal's number.
 #[inline]
-pub fn receiver_step(receiver: &mut Receiver, packet: &[u8], step: &mut Step) -> u8 {
+pub fn receiver_step(
+    receiver: &mut impl Lend<Receiver>,
+    packet: &[u8],
+    step: &mut impl Lend<Step>,
+) -> u8 {
     // SAFETY: both records, and the slice with its own length, are lent for
     // the call only.
-    unsafe { library::stewpigeon_receiver_step(receiver, packet.as_ptr(), packet.len(), step) }
+    unsafe {
+        library::stewpigeon_receiver_step(
+            receiver.place_mut(),
+            packet.as_ptr(),
+            packet.len(),
+            step.place_mut(),
+        )
+    }
 }
 
 /// Writes loss marks and gives their number.
@@ -132,12 +166,16 @@ pub fn write_marks(count: usize, space: &mut [u8]) -> usize {
 /// Opens a sender in the lent record: 0, or 1, 2, 3 and a record of zeros.
 /// The texts are zeros afterwards.
 #[inline]
-pub fn sender_open(sender: &mut Sender, texts: &mut Texts, settings: Settings) -> u8 {
+pub fn sender_open(
+    sender: &mut impl Lend<Sender>,
+    texts: &mut impl Lend<Texts>,
+    settings: Settings,
+) -> u8 {
     // SAFETY: record and texts are lent for the call only.
     unsafe {
         library::stewpigeon_sender_open_in(
-            sender,
-            texts,
+            sender.place_mut(),
+            texts.place_mut(),
             settings.level,
             settings.buffering,
             settings.t140,
@@ -152,19 +190,43 @@ pub fn sender_open(sender: &mut Sender, texts: &mut Texts, settings: Settings) -
 /// Offers text to a sender, which is written to its texts behind what waits:
 /// 0, or the refusal's number.
 #[inline]
-pub fn sender_offer(sender: &mut Sender, texts: &mut Texts, clock: u64, text: &[u8]) -> u8 {
+pub fn sender_offer(
+    sender: &mut impl Lend<Sender>,
+    texts: &mut impl Lend<Texts>,
+    clock: u64,
+    text: &[u8],
+) -> u8 {
     // SAFETY: record and texts, and the slice with its own length, are lent
     // for the call only.
-    unsafe { library::stewpigeon_sender_offer_in(sender, texts, clock, text.as_ptr(), text.len()) }
+    unsafe {
+        library::stewpigeon_sender_offer_in(
+            sender.place_mut(),
+            texts.place_mut(),
+            clock,
+            text.as_ptr(),
+            text.len(),
+        )
+    }
 }
 
 /// Writes the packet due: its length, 0 where none is due, or minus the
 /// refusal's number.
 #[inline]
-pub fn sender_clock(sender: &mut Sender, texts: &Texts, clock: u64, packet: &mut [u8]) -> i64 {
+pub fn sender_clock(
+    sender: &mut impl Lend<Sender>,
+    texts: &impl Lend<Texts>,
+    clock: u64,
+    space: &mut [u8],
+) -> i64 {
     // SAFETY: record and texts, and the slice with its own length, are lent
     // for the call only.
     unsafe {
-        library::stewpigeon_sender_clock_in(sender, texts, clock, packet.as_mut_ptr(), packet.len())
+        library::stewpigeon_sender_clock_in(
+            sender.place_mut(),
+            texts.place(),
+            clock,
+            space.as_mut_ptr(),
+            space.len(),
+        )
     }
 }

@@ -1,5 +1,5 @@
 //! The static library's records and functions, as C has them. Nothing else
-//! declares them.
+//! declares them. All fields are numbers, so that any bytes are a record.
 
 /// A receiver's state.
 #[repr(C)]
@@ -7,14 +7,14 @@
 pub struct Receiver {
     pub t140: u8,
     pub red: u8,
-    /// Whether a packet was accepted; `source` and `expected` are 0 before.
-    pub has_source: bool,
+    /// 0 until a packet was accepted; any other value counts as 1.
+    pub has_source: u8,
     pub source: u32,
     /// The number after the newest one.
     pub expected: u16,
 }
 
-/// What a step answers; all zeros where it refuses.
+/// What a step answers to an accepted packet.
 #[repr(C)]
 #[derive(Clone, Copy, Debug, PartialEq, Eq)]
 pub struct Step {
@@ -55,8 +55,8 @@ pub struct Settings {
 #[repr(C)]
 #[derive(Clone, Copy, Debug, PartialEq, Eq)]
 pub struct Progress {
-    /// Whether a packet was sent.
-    pub sent: bool,
+    /// 0 until a packet was sent; any other value counts as 1.
+    pub sent: u8,
     /// When the last one was.
     pub last: u64,
     /// When the last one with text was.
@@ -88,6 +88,49 @@ pub struct Sender {
     pub progress: Progress,
 }
 
+/// An older block of a packet.
+#[repr(C)]
+#[derive(Clone, Copy, Debug, PartialEq, Eq)]
+pub struct Block {
+    /// The time offset in ms.
+    pub offset: u16,
+    /// Where it starts in the packet.
+    pub at: usize,
+    pub len: usize,
+}
+
+/// What an accepted packet holds.
+#[repr(C)]
+#[derive(Clone, Copy, Debug, PartialEq, Eq)]
+pub struct Packet {
+    /// The M bit.
+    pub marker: u8,
+    pub sequence: u16,
+    pub timestamp: u32,
+    pub source: u32,
+    /// How many older blocks there are.
+    pub count: usize,
+    /// These, oldest first; zeros past the count.
+    pub older: [Block; 4],
+    /// Where the primary starts.
+    pub primary: usize,
+    /// Where it ends.
+    pub end: usize,
+}
+
+/// What bytes are as UTF-8.
+#[repr(C)]
+#[derive(Clone, Copy, Debug, PartialEq, Eq)]
+pub struct TextAnswer {
+    /// 1 where they are UTF-8, else 0.
+    pub is_text: u8,
+    /// How many characters they are; 0 where they are not UTF-8.
+    pub characters: usize,
+    /// Where they are not, the place of the first byte at which they can no
+    /// longer be, or their end; else 0.
+    pub place: usize,
+}
+
 /// A sender's texts: five slots of 160 bytes, used in a circle. The last
 /// blocks sent lie in the slots before the one in which text waits, the
 /// newest nearest.
@@ -101,16 +144,10 @@ extern "C" {
         red: u8,
         packet: *const u8,
         packet_len: usize,
-        answer: *mut u64,
-        answer_len: usize,
+        answer: *mut Packet,
     ) -> u8;
 
-    pub fn stewpigeon_text(
-        text: *const u8,
-        text_len: usize,
-        answer: *mut u64,
-        answer_len: usize,
-    ) -> u8;
+    pub fn stewpigeon_text(bytes: *const u8, bytes_len: usize, answer: *mut TextAnswer);
 
     pub fn stewpigeon_receiver_open(receiver: *mut Receiver, t140: u8, red: u8) -> u8;
 

@@ -1,7 +1,6 @@
 //! Single packets and texts.
 
-use crate::lent::{read_into, text_into, ANSWER};
-use crate::Refusal;
+use crate::{lent, Refusal};
 
 /// An older block of a RED packet.
 #[derive(Clone, Copy, Debug, Default, PartialEq, Eq)]
@@ -60,33 +59,25 @@ pub fn read(
 ) -> Result<Packet<'_>, Refusal> {
     let expects = u8::from(expected.is_some());
     let source = expected.unwrap_or(0);
-    let mut answer = [0; ANSWER];
-    Refusal::check(read_into(expects, source, t140, red, packet, &mut answer))?;
+    let mut answer = lent::Packet::ZERO;
+    let number = lent::read_into(expects, source, t140, red, packet, &mut answer);
+    Refusal::check(number)?;
     Ok(accepted(packet, &answer))
 }
 
-fn accepted<'a>(packet: &'a [u8], answer: &[u64; ANSWER]) -> Packet<'a> {
-    let count = answer[4] as usize;
-    let mut older = [Older::default(); Packet::LEVEL];
-    for (older, numbers) in older
-        .iter_mut()
-        .zip(answer[7..].chunks_exact(3))
-        .take(count)
-    {
-        let start = numbers[1] as usize;
-        *older = Older {
-            offset: numbers[0] as u16,
-            text: &packet[start..start + numbers[2] as usize],
-        };
-    }
+fn accepted<'a>(packet: &'a [u8], answer: &lent::Packet) -> Packet<'a> {
+    let older = |block: lent::Block| Older {
+        offset: block.offset,
+        text: &packet[block.at..block.at + block.len],
+    };
     Packet {
-        marker: answer[0] == 1,
-        sequence: answer[1] as u16,
-        timestamp: answer[2] as u32,
-        source: answer[3] as u32,
-        primary: &packet[answer[5] as usize..answer[6] as usize],
-        older,
-        count,
+        marker: answer.marker != 0,
+        sequence: answer.sequence,
+        timestamp: answer.timestamp,
+        source: answer.source,
+        primary: &packet[answer.primary..answer.end],
+        older: answer.older.map(older),
+        count: answer.count,
     }
 }
 
@@ -98,9 +89,10 @@ fn accepted<'a>(packet: &'a [u8], answer: &[u64; ANSWER]) -> Packet<'a> {
 /// assert_eq!(stewpigeon::text(&[b'a', 0xff]), Err(1));
 /// ```
 pub fn text(text: &[u8]) -> Result<usize, usize> {
-    let mut answer = [0];
-    match text_into(text, &mut answer) {
-        0 => Ok(answer[0] as usize),
-        _ => Err(answer[0] as usize),
+    let mut answer = lent::TextAnswer::ZERO;
+    lent::text_into(text, &mut answer);
+    match answer.is_text {
+        0 => Err(answer.place),
+        _ => Ok(answer.characters),
     }
 }

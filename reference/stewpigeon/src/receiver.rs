@@ -97,12 +97,12 @@ impl Receiver {
 
     /// The source of the first accepted packet.
     pub fn source(&self) -> Option<u32> {
-        self.0.has_source.then_some(self.0.source)
+        (self.0.has_source != 0).then_some(self.0.source)
     }
 
     /// The sequence number after the newest one.
     pub fn expected(&self) -> Option<u16> {
-        self.0.has_source.then_some(self.0.expected)
+        (self.0.has_source != 0).then_some(self.0.expected)
     }
 }
 

@@ -1,6 +1,6 @@
 use std::mem::size_of;
 
-use stewpigeon::lent::{self, read_into, text_into, Texts, ANSWER, SHORT_ANSWER};
+use stewpigeon::lent::{self, Block, Guarded, TextAnswer, Texts};
 use stewpigeon::{read, text, Refusal, Sender, Settings};
 
 const PACKET: [u8; 19] = [
@@ -28,13 +28,92 @@ fn refused_packets() {
     assert_eq!(read(Some(1), 98, 100, &PACKET), Err(Refusal::Source));
 }
 
+/// A word that no field has by chance.
+const FILL: u64 = 0x9e37_79b9_7f4a_7c15;
+
 #[test]
-fn a_short_answer_is_left_alone() {
-    let mut answer = [7; ANSWER - 1];
-    let number = read_into(0, 0, 98, 100, &PACKET, &mut answer);
-    assert_eq!(number, SHORT_ANSWER);
-    assert_eq!(answer, [7; ANSWER - 1]);
-    assert_eq!(text_into(b"A", &mut []), SHORT_ANSWER);
+fn the_answer_to_a_packet() {
+    let mut answer = Guarded::filled(|| FILL);
+    let before = answer.clone();
+    assert_eq!(lent::read_into(9, 1, 98, 100, &PACKET, &mut answer), 16);
+    assert_eq!(answer.bytes(), before.bytes());
+    assert_eq!(lent::read_into(0, 1, 98, 100, &PACKET, &mut answer), 0);
+    let mut wanted = lent::Packet {
+        marker: 1,
+        sequence: 5,
+        timestamp: 1000,
+        source: 0x11223344,
+        count: 1,
+        primary: 18,
+        end: 19,
+        ..lent::Packet::ZERO
+    };
+    wanted.older[0] = Block {
+        offset: 300,
+        at: 17,
+        len: 1,
+    };
+    assert_eq!(answer.value(), wanted);
+    assert_eq!(answer.around(), before.around());
+}
+
+#[test]
+fn the_answer_to_a_text() {
+    for (text, is_text, characters, place) in [(&b"AB"[..], 1, 2, 0), (b"A\xff", 0, 0, 1)] {
+        let mut answer = Guarded::filled(|| FILL);
+        let before = answer.clone();
+        lent::text_into(text, &mut answer);
+        let wanted = TextAnswer {
+            is_text,
+            characters,
+            place,
+        };
+        assert_eq!(answer.value(), wanted);
+        assert_eq!(answer.around(), before.around());
+    }
+}
+
+#[test]
+fn a_guarded_record() {
+    let mut receiver = Guarded::new(lent::Receiver::ZERO, || u64::MAX);
+    assert_eq!(receiver.value(), lent::Receiver::ZERO);
+    // 32 bytes, the fields with what lies between them, 32 bytes and the rest
+    // of a word.
+    let mut bytes = [0xff; 80];
+    for place in [32, 33, 34, 36, 37, 38, 39, 40, 41] {
+        bytes[place] = 0;
+    }
+    assert_eq!(receiver.bytes(), bytes);
+    receiver.set(lent::Receiver {
+        has_source: 7,
+        expected: 0x0909,
+        ..lent::Receiver::ZERO
+    });
+    (bytes[34], bytes[40], bytes[41]) = (7, 9, 9);
+    assert_eq!(receiver.bytes(), bytes);
+    assert_eq!(receiver.around(), [&bytes[..32], &bytes[44..]]);
+}
+
+/// 0 is false, and all else true.
+#[test]
+fn flags() {
+    for flag in [0, 1, 2, 128, 255] {
+        let mut receiver = lent::Receiver {
+            t140: 98,
+            red: 100,
+            has_source: flag,
+            source: 0x11223344,
+            expected: 6,
+        };
+        let before = receiver;
+        let mut step = lent::Step::ZERO;
+        assert_eq!(lent::receiver_step(&mut receiver, &PACKET, &mut step), 0);
+        assert_eq!(step.late, u8::from(flag != 0));
+        match flag {
+            0 => assert_eq!(receiver.has_source, 1),
+            _ => assert_eq!(receiver, before),
+        }
+    }
 }
 
 #[test]
@@ -64,6 +143,8 @@ fn refusals_and_their_numbers() {
 fn sizes() {
     assert_eq!(size_of::<lent::Receiver>(), 12);
     assert_eq!(size_of::<lent::Step>(), 40);
+    assert_eq!(size_of::<lent::Packet>(), 136);
+    assert_eq!(size_of::<TextAnswer>(), 24);
     assert_eq!(size_of::<lent::Sender>(), 168);
     assert_eq!(size_of::<Texts>(), 800);
     assert_eq!(size_of::<Sender>(), 968);

@@ -14,6 +14,10 @@ pub mod random_runs;
 pub mod stored;
 pub mod workload;
 
+/// The status where nobody reads the output any more, as of a program that
+/// the signal ends.
+pub const UNREAD: i32 = 141;
+
 /// The independent program: a journal from standard input, its transcript to
 /// standard output, past the standard library's own buffers.
 pub fn independent_transcript() -> io::Result<()> {

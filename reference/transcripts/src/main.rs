@@ -9,7 +9,7 @@ use std::time::Instant;
 
 use transcripts::check::Difference;
 use transcripts::program::Program;
-use transcripts::{live, random_runs, stored};
+use transcripts::{live, random_runs, stored, UNREAD};
 
 const USAGE: &str = "\
 Usage: transcripts [--seed N] [--journals N]
@@ -27,7 +27,8 @@ The program is ../target/bin/transcript in the repository; the variable
 STEWPIGEON_TRANSCRIPT names another one.
 
 The exit status is 0 where nothing differs, 1 at the first difference, whose
-journal is saved, and 2 where the arguments are wrong or there is no program.";
+journal is saved, 2 where the arguments are wrong or there is no program, and
+141 where nobody reads the output any more.";
 
 struct Options {
     seed: u64,
@@ -67,7 +68,7 @@ fn say(line: &str) {
         return;
     };
     if error.kind() == ErrorKind::BrokenPipe {
-        exit(0);
+        exit(UNREAD);
     }
     eprintln!("transcripts: cannot write: {error}");
     exit(1);

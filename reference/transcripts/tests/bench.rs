@@ -41,7 +41,7 @@ fn closed_output_and_usage() {
         .output()
         .unwrap();
     assert_eq!(String::from_utf8(ended.stderr).unwrap(), "");
-    assert_eq!(ended.status.code(), Some(0));
+    assert_eq!(ended.status.code(), Some(141));
     for arguments in [&["--what"][..], &["--rounds", "0"], &["--packets"]] {
         let status = bench(RIGHT, "", arguments).output().unwrap().status;
         assert_eq!(status.code(), Some(2), "{arguments:?}");

@@ -69,7 +69,7 @@ fn closed_output() {
             .output()
             .unwrap();
         assert_eq!(text(&output.stderr), "");
-        assert_eq!(output.status.code(), Some(0), "{arguments:?}");
+        assert_eq!(output.status.code(), Some(141), "{arguments:?}");
     }
 }
 

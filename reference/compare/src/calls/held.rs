@@ -1,11 +1,7 @@
 //! A sender's record and texts, what they mean, and what a call writes to
 //! them.
 
-use std::hint::black_box;
-
-use super::guarded::Guarded;
-use crate::random::Random;
-use stewpigeon::lent::{self, Progress, Sender, Settings, Texts};
+use stewpigeon::lent::{Progress, Sender, Settings, Texts};
 
 /// The longest text in a slot.
 pub const ROOM: usize = 160;
@@ -71,7 +67,7 @@ impl Held {
             ats: [clock, d, e, f],
             count: before.count.min(LEVEL - 1) + 1,
             progress: Progress {
-                sent: true,
+                sent: 1,
                 last: clock,
                 last_text: match before.len {
                     0 => before.progress.last_text,
@@ -90,54 +86,6 @@ impl Held {
     pub fn counted(mut self) -> Held {
         self.record.lens = self.record.lens.map(|len| len.min(ROOM));
         self
-    }
-}
-
-/// Record and texts lent apart, each among bytes that must stay.
-pub struct Lending {
-    record: Box<Guarded<Sender>>,
-    texts: Box<Guarded<Texts>>,
-}
-
-impl Lending {
-    pub fn new(random: &mut Random, held: Held) -> Lending {
-        Lending {
-            record: Box::new(Guarded::new(random, held.record)),
-            texts: Box::new(Guarded::new(random, held.texts)),
-        }
-    }
-
-    /// The library's opening.
-    pub fn open(&mut self, settings: Settings) -> u8 {
-        lent::sender_open(&mut self.record.value, &mut self.texts.value, settings)
-    }
-
-    /// The library's offer.
-    pub fn offer(&mut self, clock: u64, text: &[u8]) -> u8 {
-        lent::sender_offer(&mut self.record.value, &mut self.texts.value, clock, text)
-    }
-
-    /// The library's clock call.
-    pub fn clock(&mut self, clock: u64, packet: &mut [u8]) -> i64 {
-        lent::sender_clock(&mut self.record.value, &self.texts.value, clock, packet)
-    }
-
-    /// Other bytes lie in the texts.
-    pub fn fill(&mut self, texts: Texts) {
-        self.texts.value = texts;
-    }
-
-    pub fn held(&self) -> Held {
-        let seen = black_box(self);
-        Held {
-            record: seen.record.value,
-            texts: seen.texts.value,
-        }
-    }
-
-    /// Nothing was written outside record and texts.
-    pub fn kept(&mut self) -> bool {
-        self.record.kept() && self.texts.kept()
     }
 }
 

@@ -4,7 +4,8 @@
 use std::iter::repeat_n;
 
 use super::receivers;
-use super::senders::{self, Space};
+use super::senders;
+use super::space::Space;
 use super::tally::{Call, Tally};
 use crate::random::Random;
 use independent::channel::{self, Delivery, Line};

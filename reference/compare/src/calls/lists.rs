@@ -1,10 +1,11 @@
 //! Random lists of calls.
 
-use super::guarded::Lent;
 use super::receivers;
-use super::senders::{self, Space};
+use super::senders;
+use super::space::Space;
 use super::tally::{Answer, Call, Tally};
 use crate::damage::mutate;
+use crate::patterns::Lent;
 use crate::plan::{Plan, RED, T140};
 use crate::random::Random;
 use independent::channel::{self, settings};

@@ -2,14 +2,15 @@
 //! the independent program.
 
 mod any_state;
-mod guarded;
 mod held;
+mod library;
 mod lines;
 mod lists;
 mod named;
 mod receivers;
 mod rules;
 mod senders;
+mod space;
 pub mod tally;
 
 pub use senders::library_settings;

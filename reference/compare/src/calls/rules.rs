@@ -1,5 +1,6 @@
 //! The calls' rules on any sender and receiver, also on such as no call
-//! leaves: a time that has not come yet is no time ago.
+//! leaves: a time that has not come yet is no time ago, and in a flag 0 is
+//! false and all else true.
 
 use std::mem::take;
 
@@ -62,7 +63,7 @@ fn run(sender: &Meaning, clock: u64) -> &[Block] {
 
 fn due(sender: &Meaning, clock: u64) -> bool {
     let rest = clock.saturating_sub(sender.progress.last);
-    let rested = !sender.progress.sent || rest >= sender.settings.buffering;
+    let rested = sender.progress.sent == 0 || rest >= sender.settings.buffering;
     let mut repeats = run(sender, clock).iter();
     rested && (!sender.waiting.is_empty() || repeats.any(|block| !block.text.is_empty()))
 }
@@ -70,7 +71,7 @@ fn due(sender: &Meaning, clock: u64) -> bool {
 fn marker(sender: &Meaning) -> bool {
     let after = sender.since.saturating_sub(sender.progress.last_text);
     let typed = !sender.waiting.is_empty();
-    !sender.progress.sent || typed && after > sender.settings.buffering
+    sender.progress.sent == 0 || typed && after > sender.settings.buffering
 }
 
 fn packet(sender: &Meaning, clock: u64) -> Vec<u8> {
@@ -103,7 +104,7 @@ fn packet(sender: &Meaning, clock: u64) -> Vec<u8> {
 fn sent(sender: &mut Meaning, clock: u64) {
     let text = take(&mut sender.waiting);
     let progress = &mut sender.progress;
-    progress.sent = true;
+    progress.sent = 1;
     progress.last = clock;
     if !text.is_empty() {
         progress.last_text = clock;
@@ -138,31 +139,28 @@ pub fn clock(sender: &mut Meaning, clock: u64, space: &mut [u8]) -> i64 {
 
 /// A step of a receiver; without a source it is fresh, whatever else it
 /// holds.
-pub fn step(receiver: &mut lent::Receiver, packet: &[u8]) -> (u8, lent::Step) {
-    let source = receiver.has_source.then_some(receiver.source);
-    let packet = match read(source, receiver.t140, receiver.red, packet) {
-        Ok(packet) => packet,
-        Err(number) => return (number, lent::Step::ZERO),
-    };
+pub fn step(receiver: &mut lent::Receiver, packet: &[u8]) -> Result<lent::Step, u8> {
+    let has_source = receiver.has_source != 0;
+    let source = has_source.then_some(receiver.source);
+    let packet = read(source, receiver.t140, receiver.red, packet)?;
     let older = packet.older().len();
     let mut d = usize::from(packet.sequence.wrapping_sub(receiver.expected));
     let mut wanted = d.min(older);
-    if !receiver.has_source {
+    if !has_source {
         (d, wanted) = (0, older);
     }
     if d > 32_767 {
-        let late = lent::Step {
+        return Ok(lent::Step {
             late: 1,
             distance: (d as i32 - 65_536) as i16,
             ..lent::Step::ZERO
-        };
-        return (0, late);
+        });
     }
-    receiver.has_source = true;
+    receiver.has_source = 1;
     receiver.source = packet.source;
     receiver.expected = packet.sequence.wrapping_add(1);
     let first = packet.older()[older - wanted..].first();
-    let step = lent::Step {
+    Ok(lent::Step {
         late: 0,
         loss: d.saturating_sub(older) as u16,
         distance: d as i16,
@@ -170,6 +168,5 @@ pub fn step(receiver: &mut lent::Receiver, packet: &[u8]) -> (u8, lent::Step) {
         given: wanted + 1,
         from: first.map_or(packet.start, |first| first.start).into(),
         to: packet.end.into(),
-    };
-    (0, step)
+    })
 }

@@ -1,58 +1,17 @@
 //! A sender of the library beside an independent one.
 
-use super::guarded::Lent;
-use super::held::{self, Held, Lending, Meaning, LEVEL, ROOM, SLOTS};
+use super::held::{self, Held, Meaning, LEVEL, ROOM, SLOTS};
+use super::space::Space;
 use super::tally::{Answer, Call, Tally};
+use super::{any_state, library};
 use crate::check::hex;
+use crate::patterns::Lent;
 use crate::random::Random;
 use independent::sender::{Clocked, Sender, Settings};
 use stewpigeon::lent;
 
-#[derive(Clone, Copy, Debug)]
-pub enum Space {
-    Exact,
-    OneShort,
-    FarTooShort,
-    Longer,
-}
-
-impl Space {
-    pub fn any(random: &mut Random) -> Space {
-        match random.below(8) {
-            0 => Space::OneShort,
-            1 => Space::FarTooShort,
-            2..5 => Space::Exact,
-            _ => Space::Longer,
-        }
-    }
-
-    /// Space that holds the packet.
-    pub fn enough(random: &mut Random) -> Space {
-        random.pick(&[Space::Exact, Space::Longer])
-    }
-
-    /// How much is lent for a packet of this length.
-    fn length(self, random: &mut Random, packet: usize) -> usize {
-        match self {
-            Space::Exact => packet,
-            Space::OneShort => packet.saturating_sub(1),
-            Space::FarTooShort => random.below(packet.max(1)),
-            Space::Longer => packet + random.within(1, 40),
-        }
-    }
-
-    fn name(self) -> &'static str {
-        match self {
-            Space::Exact => "packets due with space exactly right",
-            Space::OneShort => "packets due with space one byte short",
-            Space::FarTooShort => "packets due with space far too short",
-            Space::Longer => "packets due with longer space",
-        }
-    }
-}
-
 pub struct Pair {
-    library: Lending,
+    library: Held,
     independent: Sender,
     /// How many packets they sent.
     packets: usize,
@@ -74,7 +33,7 @@ pub fn library_settings(settings: &Settings) -> lent::Settings {
 
 fn progress(sender: &Sender) -> lent::Progress {
     lent::Progress {
-        sent: sender.last_packet().is_some(),
+        sent: sender.last_packet().is_some().into(),
         last: sender.last_packet().unwrap_or(0),
         last_text: sender.last_text().unwrap_or(0),
         next: sender.sequence(),
@@ -127,9 +86,9 @@ impl Pair {
         settings: &Settings,
         tally: &mut Tally,
     ) -> Result<Pair, String> {
-        let before = super::any_state::sender(random);
-        let mut library = Lending::new(random, before);
-        let number = library.open(library_settings(settings));
+        let call = || format!("opening a sender, {settings:?}");
+        let (number, library) = library::sender_open(random, library_settings(settings))
+            .map_err(|what| format!("{}: {what}", call()))?;
         let opened = Sender::open(*settings);
         let wanted = *opened.as_ref().err().unwrap_or(&0);
         let mut pair = Pair {
@@ -139,9 +98,10 @@ impl Pair {
             texts: Held::ZERO.texts,
         };
         let refused = number != 0;
-        if number != wanted || !pair.same() || refused && pair.held() != Held::ZERO {
+        if number != wanted || !pair.same() || refused && library != Held::ZERO {
             return Err(format!(
-                "opening a sender, {settings:?}: {number}, {wanted} is due\n{}",
+                "{}: {number}, {wanted} is due\n{}",
+                call(),
                 pair.states()
             ));
         }
@@ -155,8 +115,8 @@ impl Pair {
         // What lies in the texts and is no text of the sender does not count,
         // and stays.
         if !refused && random.once_in(2) {
-            pair.texts = super::any_state::texts(random);
-            pair.library.fill(pair.texts);
+            pair.texts = any_state::texts(random);
+            pair.library.texts = pair.texts;
         }
         Ok(pair)
     }
@@ -168,7 +128,7 @@ impl Pair {
 
     /// The library's record and texts.
     pub fn held(&self) -> Held {
-        self.library.held()
+        self.library
     }
 
     /// The slot in which text waits: each packet leaves its own.
@@ -185,21 +145,16 @@ impl Pair {
     }
 
     /// The states are the same, field by field, byte by byte and in what they
-    /// mean, and nothing around the library's changed.
-    fn same(&mut self) -> bool {
-        let held = self.held();
-        self.library.kept()
-            && held == self.wanted()
-            && Meaning::of(&held) == meaning(&self.independent)
+    /// mean.
+    fn same(&self) -> bool {
+        self.library == self.wanted() && Meaning::of(&self.library) == meaning(&self.independent)
     }
 
-    fn states(&mut self) -> String {
-        let kept = self.library.kept();
+    fn states(&self) -> String {
         let [held, wanted] = [self.held(), self.wanted()];
         format!(
             "library:     {:?}\n{}\nto mean      {:?}\n\
-             independent: {:?}\n{}\nto mean      {:?}\n\
-             bytes around record and texts kept: {kept}",
+             independent: {:?}\n{}\nto mean      {:?}",
             held.record,
             hex(&held.texts),
             Meaning::of(&held),
@@ -217,39 +172,27 @@ impl Pair {
         text: &[u8],
         tally: &mut Tally,
     ) -> Result<u8, String> {
-        let lent = Lent::new(random, text);
-        let untouched = lent.clone();
-        let before = self.held();
-        let number = self.library.offer(clock, lent.bytes());
+        let number = library::offer(random, &mut self.library, clock, text);
         let place = self.room() * ROOM + self.waiting().len();
         let wanted = self.independent.offer(clock, text).err().unwrap_or(0);
         if wanted == 0 {
             self.texts[place..][..text.len()].copy_from_slice(text);
         }
-        let what = if number != wanted {
-            "the answers differ"
-        } else if number != 0 && self.held() != before {
-            "a refusal changed the sender"
-        } else if !self.same() {
-            "the senders differ afterwards"
-        } else if lent != untouched {
-            "bytes of the text or around it changed"
-        } else {
-            tally.meet("offers that fill the waiting room", {
-                number == 0 && self.waiting().len() == ROOM
-            });
-            tally.add(
-                Call::Offer,
-                match number {
-                    0 => Answer::Done("taken"),
-                    number => Answer::Refused(number),
-                },
-            );
-            return Ok(number);
+        let what = match number {
+            Err(what) => what,
+            Ok(number) if number != wanted => "the answers differ",
+            Ok(_) if !self.same() => "the senders differ afterwards",
+            Ok(number) => {
+                tally.meet("offers that fill the waiting room", {
+                    number == 0 && self.waiting().len() == ROOM
+                });
+                tally.add(Call::Offer, offered(number));
+                return Ok(number);
+            }
         };
         Err(format!(
             "an offer at {clock}: {what}\ntext ({} bytes): {}\n\
-             library: {number}, independent: {wanted}\nafterwards\n{}",
+             library: {number:?}, independent: {wanted}\nafterwards\n{}",
             text.len(),
             hex(text),
             self.states()
@@ -275,8 +218,7 @@ impl Pair {
         };
         let mut ours = Lent::any(random, length);
         let mut theirs = ours.clone();
-        let before = self.held();
-        let answer = self.library.clock(clock, ours.bytes_mut());
+        let answer = library::clock(random, &mut self.library, clock, &mut ours);
         let clocked = self.independent.clock(clock, theirs.bytes_mut());
         self.packets += usize::from(matches!(clocked, Clocked::Sent(_)));
         let wanted = match clocked {
@@ -284,42 +226,33 @@ impl Pair {
             Clocked::Quiet => 0,
             Clocked::Sent(length) => length as i64,
         };
-        let what = if answer != wanted {
-            "the answers differ"
-        } else if ours != theirs {
-            "the lent bytes, or those around them, differ"
-        } else if answer < 0 && self.held() != before {
-            "a refusal changed the sender"
-        } else if answer == 0 && self.held() != before.at(clock) {
-            "a quiet call changed more than the clock"
-        } else if !self.same() {
-            "the senders differ afterwards"
-        } else {
-            tally.meet(space.name(), due.is_some());
-            self.met(clock, clocked, tally);
-            return Ok(match clocked {
-                Clocked::Refused(number) => Err(number),
-                Clocked::Quiet => Ok(None),
-                Clocked::Sent(length) => Ok(Some(ours.bytes()[..length].to_vec())),
-            });
+        let what = match answer {
+            Err(what) => what,
+            Ok(answer) if answer != wanted => "the answers differ",
+            Ok(_) if ours != theirs => "the lent bytes, or those around them, differ",
+            Ok(_) if !self.same() => "the senders differ afterwards",
+            Ok(answer) => {
+                tally.meet(space.name(), due.is_some());
+                self.met(clock, answer, tally);
+                return Ok(match clocked {
+                    Clocked::Refused(number) => Err(number),
+                    Clocked::Quiet => Ok(None),
+                    Clocked::Sent(length) => Ok(Some(ours.bytes()[..length].to_vec())),
+                });
+            }
         };
         Err(format!(
             "a clock call at {clock} with {length} bytes: {what}\n\
-             library:     {answer} {}\nindependent: {wanted} {}\nafterwards\n{}",
+             library:     {answer:?} {}\nindependent: {wanted} {}\nafterwards\n{}",
             hex(ours.bytes()),
             hex(theirs.bytes()),
             self.states()
         ))
     }
 
-    fn met(&self, clock: u64, clocked: Clocked, tally: &mut Tally) {
-        let answer = match clocked {
-            Clocked::Refused(number) => Answer::Refused(number),
-            Clocked::Quiet => Answer::Done("quiet"),
-            Clocked::Sent(_) => Answer::Done("sent"),
-        };
-        tally.add(Call::Clock, answer);
-        let sent = matches!(clocked, Clocked::Sent(_));
+    fn met(&self, clock: u64, answer: i64, tally: &mut Tally) {
+        tally.add(Call::Clock, clocked(answer));
+        let sent = answer > 0;
         let last = clock > u64::MAX - 20_000;
         tally.meet("packets sent in the clock's last 20 s", sent && last);
         tally.meet("packets sent with number 65,535", {
@@ -328,5 +261,22 @@ impl Pair {
         tally.meet("packets sent from the last slot", {
             sent && self.room() == 0
         });
+    }
+}
+
+/// The kind of an offer's answer.
+pub fn offered(number: u8) -> Answer {
+    match number {
+        0 => Answer::Done("taken"),
+        number => Answer::Refused(number),
+    }
+}
+
+/// The kind of a clock call's answer.
+pub fn clocked(answer: i64) -> Answer {
+    match answer {
+        1.. => Answer::Done("sent"),
+        0 => Answer::Done("quiet"),
+        refusal => Answer::Refused(refusal.unsigned_abs() as u8),
     }
 }

@@ -1,6 +1,6 @@
 //! What was called and answered.
 
-use std::collections::BTreeMap;
+use std::collections::{BTreeMap, BTreeSet};
 use std::fmt::{self, Display, Formatter};
 
 use crate::say;
@@ -64,6 +64,36 @@ impl Call {
     }
 }
 
+impl Call {
+    /// The flag in the record of this call, and the outcomes in which each of
+    /// its values must be met.
+    fn flag(self) -> Option<(&'static str, &'static [&'static str])> {
+        match self {
+            Call::Step => Some(("has_source", &["forward", "late", "refused"])),
+            Call::Offer => Some(("sent", &["taken", "refused"])),
+            Call::Clock => Some(("sent", &["sent", "quiet", "refused"])),
+            Call::ReceiverOpen | Call::WriteMarks | Call::SenderOpen => None,
+        }
+    }
+
+    /// The least value: nothing is late before a packet was accepted.
+    fn least(self, outcome: &str) -> u8 {
+        match (self, outcome) {
+            (Call::Step, "late") => 1,
+            _ => 0,
+        }
+    }
+}
+
+impl Answer {
+    fn outcome(self) -> &'static str {
+        match self {
+            Done(name) => name,
+            Refused(_) => "refused",
+        }
+    }
+}
+
 impl Display for Answer {
     fn fmt(&self, f: &mut Formatter<'_>) -> fmt::Result {
         match self {
@@ -73,12 +103,13 @@ impl Display for Answer {
     }
 }
 
-/// How often each answer was given to each call, and how often something
-/// that must be met was.
+/// How often each answer was given to each call, how often something that
+/// must be met was, and which values of flags were.
 #[derive(Default)]
 pub struct Tally {
     answers: BTreeMap<(Call, Answer), usize>,
     met: BTreeMap<&'static str, usize>,
+    flags: BTreeMap<(Call, &'static str), BTreeSet<u8>>,
 }
 
 impl Tally {
@@ -89,6 +120,12 @@ impl Tally {
     /// One more of what must be met, where `times` is not 0.
     pub fn meet(&mut self, what: &'static str, times: impl Into<usize>) {
         *self.met.entry(what).or_default() += times.into();
+    }
+
+    /// A call on a record with this value in its flag was answered so.
+    pub fn flag(&mut self, call: Call, answer: Answer, value: u8) {
+        let values = self.flags.entry((call, answer.outcome())).or_default();
+        values.insert(value);
     }
 
     /// How many calls of a kind there were.
@@ -111,6 +148,36 @@ impl Tally {
         for (what, count) in &self.met {
             say!("{count:>9}  {what}");
         }
+        for ((call, outcome), values) in &self.flags {
+            let Some((flag, _)) = call.flag() else {
+                continue;
+            };
+            let values = values.len();
+            say!(
+                "{values:>9}  values of {flag} in any state: {}, {outcome}",
+                call.name()
+            );
+        }
+    }
+
+    /// The values of flags that were never met.
+    fn missing_flags(&self) -> Vec<String> {
+        let mut missing = vec![];
+        for call in Call::ALL {
+            let Some((flag, outcomes)) = call.flag() else {
+                continue;
+            };
+            for outcome in outcomes {
+                let met = self.flags.get(&(call, outcome));
+                let never = |value: &u8| !met.is_some_and(|met| met.contains(value));
+                let never: Vec<u8> = (call.least(outcome)..=255).filter(never).collect();
+                if !never.is_empty() {
+                    let call = call.name();
+                    missing.push(format!("{call}, {outcome}: {flag} was never {never:?}"));
+                }
+            }
+        }
+        missing
     }
 
     /// What a comparison must have met and this one did not.
@@ -125,6 +192,7 @@ impl Tally {
         }
         let never = self.met.iter().filter(|(_, count)| **count == 0);
         missing.extend(never.map(|(what, _)| format!("never met: {what}")));
+        missing.extend(self.missing_flags());
         missing
     }
 }

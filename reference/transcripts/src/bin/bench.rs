@@ -3,13 +3,14 @@
 
 use std::env;
 use std::fs::{self, File};
-use std::io::{self, Write};
+use std::io::{self, ErrorKind, Write};
 use std::path::{Path, PathBuf};
 use std::process::{self, exit};
 use std::time::Instant;
 
 use transcripts::program::{Program, PATIENCE};
 use transcripts::workload::workload;
+use transcripts::UNREAD;
 
 const USAGE: &str = "\
 Usage: bench-transcript [--packets N] [--rounds N]
@@ -47,7 +48,7 @@ fn options() -> Result<Options, String> {
             "--packets" => options.packets = number("--packets", arguments.next())?,
             "--rounds" => options.rounds = number("--rounds", arguments.next())?,
             "--help" | "-h" => {
-                say(USAGE);
+                say(USAGE).unwrap_or_else(|stop| stop.exit());
                 exit(0);
             }
             other => return Err(format!("unknown argument {other}; --help lists them")),
@@ -64,9 +65,35 @@ fn number(name: &str, value: Option<String>) -> Result<usize, String> {
     }
 }
 
-/// Prints a line; one that nobody reads is no failure.
-fn say(line: &str) {
-    let _ = writeln!(io::stdout(), "{line}");
+/// Why the benchmark ends early.
+enum Stop {
+    /// Nobody reads the output any more.
+    Unread,
+    Wrong(String),
+}
+
+impl From<String> for Stop {
+    fn from(wrong: String) -> Stop {
+        Stop::Wrong(wrong)
+    }
+}
+
+impl Stop {
+    fn exit(self) -> ! {
+        let Stop::Wrong(wrong) = self else {
+            exit(UNREAD);
+        };
+        eprintln!("bench-transcript: {wrong}");
+        exit(1);
+    }
+}
+
+/// Prints a line.
+fn say(line: &str) -> Result<(), Stop> {
+    writeln!(io::stdout(), "{line}").map_err(|error| match error.kind() {
+        ErrorKind::BrokenPipe => Stop::Unread,
+        _ => Stop::Wrong(format!("cannot write: {error}")),
+    })
 }
 
 /// A directory that goes when the benchmark ends.
@@ -196,7 +223,7 @@ fn printed(scratch: &Scratch) -> Result<Vec<u8>, String> {
     }
 }
 
-fn bench(options: &Options) -> Result<(), String> {
+fn bench(options: &Options) -> Result<(), Stop> {
     let itself = env::current_exe().map_err(|error| format!("cannot find itself: {error}"))?;
     let programs = [Program::find()?, Program::new(itself, &[INDEPENDENT])];
     let scratch = Scratch::new()?;
@@ -211,10 +238,10 @@ fn bench(options: &Options) -> Result<(), String> {
         work.displaced,
         work.damaged,
         work.journal.len()
-    ));
+    ))?;
     let times = rounds(&programs, &scratch, &journal, options.rounds)?;
     let printed = printed(&scratch)?;
-    say(&format!("both print the same {} bytes", printed.len()));
+    say(&format!("both print the same {} bytes", printed.len()))?;
     for which in 0..2 {
         let seconds = median(times[which].iter().map(|time| time.clock));
         let memory = memory(&programs[which], &work.journal, &printed)?;
@@ -224,7 +251,7 @@ fn bench(options: &Options) -> Result<(), String> {
             NAMES[which],
             work.journal.len() as f64 / seconds,
             processor_mean(&times[which])
-        ));
+        ))?;
     }
     let [proved, independent] = &times;
     let pairs = proved.iter().zip(independent);
@@ -233,8 +260,7 @@ fn bench(options: &Options) -> Result<(), String> {
         options.rounds,
         median(pairs.map(|(proved, independent)| proved.clock / independent.clock)),
         processor_mean(proved) / processor_mean(independent)
-    ));
-    Ok(())
+    ))
 }
 
 fn main() {
@@ -252,8 +278,5 @@ fn main() {
         eprintln!("bench-transcript: {wrong}");
         exit(2);
     });
-    if let Err(wrong) = bench(&options) {
-        eprintln!("bench-transcript: {wrong}");
-        exit(1);
-    }
+    bench(&options).unwrap_or_else(|stop| stop.exit());
 }

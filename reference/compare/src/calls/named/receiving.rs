@@ -180,8 +180,8 @@ fn all_of_the_paper(given: &mut Given<'_>) -> Result<(), String> {
         }
         let mut pair = Pair::open(given.random, case.t140, case.red, given.tally)?;
         let answer = step(given, &mut pair, &case.packet)?;
-        let due = case.numbers();
-        same(answer.map(|step| step.to as u64), due.map(|due| due[6]))?;
+        let due = case.result.map(|due| due.end.into());
+        same(answer.map(|step| step.to), due)?;
     }
     Ok(())
 }

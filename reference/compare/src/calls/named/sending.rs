@@ -1,7 +1,8 @@
 //! Named cases of the sender.
 
 use super::super::held::Held;
-use super::super::senders::{Pair, Space};
+use super::super::senders::Pair;
+use super::super::space::Space;
 use super::{same, Case, Given};
 use independent::read;
 use independent::sender::Settings;

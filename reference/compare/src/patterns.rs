@@ -1,38 +1,18 @@
-//! Records and bytes lent among others that must stay as they are.
+//! Records and bytes that are lent, among others, and filled from the seed.
 
-use std::hint::black_box;
 use std::ops::Range;
 
 use crate::random::Random;
+use stewpigeon::lent::{Guarded, Record};
 
-const AROUND: usize = 32;
-
-/// A record with bytes before and behind it.
-#[repr(C)]
-pub struct Guarded<T> {
-    before: [u8; AROUND],
-    pub value: T,
-    behind: [u8; AROUND],
-    guard: Box<[u8; AROUND]>,
+/// A record of any values.
+pub fn filled<T: Record>(random: &mut Random) -> Guarded<T> {
+    Guarded::filled(|| random.number())
 }
 
-impl<T> Guarded<T> {
-    pub fn new(random: &mut Random, value: T) -> Self {
-        let mut guard = [0; AROUND];
-        guard.fill_with(|| random.byte());
-        Guarded {
-            before: guard,
-            value,
-            behind: guard,
-            guard: Box::new(guard),
-        }
-    }
-
-    /// Nothing was written outside the record.
-    pub fn kept(&mut self) -> bool {
-        let seen = black_box(self);
-        seen.before == *seen.guard && seen.behind == *seen.guard
-    }
+/// A record of these values, with any bytes around it and between its fields.
+pub fn guarded<T: Record>(random: &mut Random, value: T) -> Guarded<T> {
+    Guarded::new(value, || random.number())
 }
 
 /// Bytes that are lent, with others around them.

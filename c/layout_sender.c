@@ -1,0 +1,245 @@
+/* The sender, its record and texts lent apart. */
+#include "layout.h"
+
+static void opened_fields(struct guarded_record *line, struct guarded_texts *texts)
+{
+    const struct stewpigeon_sender_record *sender = &line->record;
+
+    FILLED(*line);
+    FILLED(*texts);
+    EXPECT(stewpigeon_sender_open_in(&line->record, texts->record, 2, 300, 98, 100, 65535, 1000, 0x11223344) == 0);
+    EXPECT(UNTOUCHED(*line) && UNTOUCHED(*texts));
+    EXPECT(sender->settings.level == 2 && sender->settings.buffering == 300);
+    EXPECT(sender->settings.t140 == 98 && sender->settings.red == 100);
+    EXPECT(sender->settings.sequence == 65535 && sender->settings.timestamp == 1000);
+    EXPECT(sender->settings.source == 0x11223344);
+    EXPECT(sender->clock == 0 && sender->count == 0);
+    EXPECT(sender->room == 0 && sender->len == 0 && sender->since == 0);
+    for (size_t k = 0; k < STEWPIGEON_LEVELS; k++)
+        EXPECT(sender->lens[k] == 0 && sender->ats[k] == 0);
+    EXPECT(sender->progress.sent == 0 && sender->progress.last == 0 && sender->progress.last_text == 0);
+    EXPECT(sender->progress.next == 65535);
+    EXPECT(are(texts->record, STEWPIGEON_TEXTS, 0));
+    /* Bytes that no text covers stay, whatever they are. */
+    memset(texts->record, fill, sizeof texts->record);
+}
+
+/* Fills what lies around the record and between its fields, whatever a call has left there. */
+static void refilled(struct guarded_record *line)
+{
+    const struct stewpigeon_sender_record from = line->record;
+    struct stewpigeon_sender_record *to = &line->record;
+
+    FILLED(*line);
+    to->settings.level = from.settings.level;
+    to->settings.buffering = from.settings.buffering;
+    to->settings.t140 = from.settings.t140;
+    to->settings.red = from.settings.red;
+    to->settings.sequence = from.settings.sequence;
+    to->settings.timestamp = from.settings.timestamp;
+    to->settings.source = from.settings.source;
+    to->clock = from.clock;
+    to->room = from.room;
+    to->len = from.len;
+    to->since = from.since;
+    memcpy(to->lens, from.lens, sizeof to->lens);
+    memcpy(to->ats, from.ats, sizeof to->ats);
+    to->count = from.count;
+    to->progress.sent = from.progress.sent;
+    to->progress.last = from.progress.last;
+    to->progress.last_text = from.progress.last_text;
+    to->progress.next = from.progress.next;
+}
+
+static void every_field(void)
+{
+    static const uint8_t text[] = {'A', 0xC3, 0xA9};
+    struct guarded_record line;
+    struct guarded_texts texts;
+    const struct stewpigeon_sender_record *sender = &line.record;
+    uint8_t kept[STEWPIGEON_TEXTS], packet[STEWPIGEON_LONGEST];
+
+    opened_fields(&line, &texts);
+    memset(kept, fill, sizeof kept);
+    memcpy(kept, text, sizeof text);
+    EXPECT(stewpigeon_sender_offer_in(&line.record, texts.record, 7, text, sizeof text) == 0);
+    EXPECT(UNTOUCHED(line) && UNTOUCHED(texts));
+    EXPECT(sender->clock == 7 && sender->room == 0 && sender->len == sizeof text && sender->since == 7);
+    EXPECT(memcmp(texts.record, kept, sizeof kept) == 0);
+
+    memset(packet, fill, sizeof packet);
+    EXPECT(stewpigeon_sender_clock_in(&line.record, texts.record, 9, packet, sizeof packet) == 16);
+    EXPECT(UNTOUCHED(line) && UNTOUCHED(texts));
+    EXPECT(are(packet + 16, sizeof packet - 16, fill));
+    EXPECT(memcmp(packet + 13, text, sizeof text) == 0);
+    EXPECT(sender->clock == 9 && sender->room == 1 && sender->len == 0 && sender->since == 0 && sender->count == 1);
+    EXPECT(sender->lens[0] == sizeof text && sender->ats[0] == 9);
+    EXPECT(sender->progress.sent == 1 && sender->progress.last == 9 && sender->progress.last_text == 9);
+    EXPECT(sender->progress.next == 0);
+    EXPECT(memcmp(texts.record, kept, sizeof kept) == 0);
+}
+
+/* Every slot, length and time in its place, for more packets than there are slots. */
+static void slots(void)
+{
+    enum { SLOTS = STEWPIGEON_LEVELS + 1, PACKETS = 2 * SLOTS + 1 };
+    struct guarded_record line;
+    struct guarded_texts texts;
+    const struct stewpigeon_sender_record *sender = &line.record;
+    uint8_t kept[STEWPIGEON_TEXTS], packet[STEWPIGEON_LONGEST], text[STEWPIGEON_ROOM];
+
+    opened_fields(&line, &texts);
+    memset(kept, fill, sizeof kept);
+    for (size_t k = 0; k < PACKETS; k++) {
+        size_t slot = k % SLOTS, len = STEWPIGEON_ROOM - k;
+        uint64_t clock = 1000 * k;
+        memset(text, 'a' + (int)k, sizeof text);
+        memcpy(kept + STEWPIGEON_ROOM * slot, text, len);
+        /* In two parts, the second behind the first. */
+        EXPECT(stewpigeon_sender_offer_in(&line.record, texts.record, clock, text, 3) == 0);
+        EXPECT(sender->room == slot && sender->len == 3 && sender->since == clock);
+        EXPECT(stewpigeon_sender_offer_in(&line.record, texts.record, clock + 1, text, len - 3) == 0);
+        EXPECT(sender->room == slot && sender->len == len && sender->since == clock && sender->clock == clock + 1);
+        EXPECT(memcmp(texts.record, kept, sizeof kept) == 0);
+        EXPECT(stewpigeon_sender_clock_in(&line.record, texts.record, clock + 2, packet, sizeof packet) > 0);
+        EXPECT(sender->room == (slot + 1) % SLOTS && sender->len == 0 && sender->since == 0);
+        EXPECT(sender->count == (k + 1 < STEWPIGEON_LEVELS ? k + 1 : STEWPIGEON_LEVELS));
+        for (size_t back = 0; back < sender->count; back++)
+            EXPECT(sender->lens[back] == len + back && sender->ats[back] == clock + 2 - 1000 * back);
+        for (size_t back = sender->count; back < STEWPIGEON_LEVELS; back++)
+            EXPECT(sender->lens[back] == 0 && sender->ats[back] == 0);
+        EXPECT(memcmp(texts.record, kept, sizeof kept) == 0);
+        EXPECT(UNTOUCHED(line) && UNTOUCHED(texts));
+    }
+}
+
+/* Refused calls on a sender in which "AB" has waited since 5 leave record, texts and space. */
+static void refused(struct guarded_record *line, struct guarded_texts *texts)
+{
+    static const uint8_t more[] = {'C', 0xFF};
+    struct stewpigeon_sender_record *sender = &line->record;
+    struct guarded_record kept;
+    struct guarded_texts kept_texts;
+    uint8_t space[STEWPIGEON_LONGEST], whole_room[STEWPIGEON_ROOM];
+
+    memset(whole_room, 'D', sizeof whole_room);
+    memset(space, fill, sizeof space);
+    refilled(line);
+    KEEP(kept, *line);
+    KEEP(kept_texts, *texts);
+    EXPECT(stewpigeon_sender_offer_in(sender, texts->record, 4, more, 1) == STEWPIGEON_REFUSED_CLOCK);
+    EXPECT(SAME(kept, *line) && SAME(kept_texts, *texts));
+    EXPECT(stewpigeon_sender_offer_in(sender, texts->record, 6, more, 0) == STEWPIGEON_REFUSED_NO_TEXT);
+    EXPECT(SAME(kept, *line) && SAME(kept_texts, *texts));
+    EXPECT(stewpigeon_sender_offer_in(sender, texts->record, 6, more, 2) == STEWPIGEON_REFUSED_TEXT);
+    EXPECT(SAME(kept, *line) && SAME(kept_texts, *texts));
+    EXPECT(stewpigeon_sender_offer_in(sender, texts->record, 6, whole_room, 159) == STEWPIGEON_REFUSED_WAITING_ROOM);
+    EXPECT(SAME(kept, *line) && SAME(kept_texts, *texts));
+    EXPECT(stewpigeon_sender_clock_in(sender, texts->record, 999, space, 14) == -STEWPIGEON_REFUSED_SPACE);
+    EXPECT(SAME(kept, *line) && SAME(kept_texts, *texts) && are(space, sizeof space, fill));
+    EXPECT(stewpigeon_sender_clock_in(sender, texts->record, 4, space, sizeof space) == -STEWPIGEON_REFUSED_CLOCK);
+    EXPECT(SAME(kept, *line) && SAME(kept_texts, *texts) && are(space, sizeof space, fill));
+}
+
+/* A quiet call keeps the clock, and changes nothing else. */
+static void quiet(struct guarded_record *line, struct guarded_texts *texts, uint64_t clock)
+{
+    struct guarded_record kept;
+    struct guarded_texts kept_texts;
+    uint8_t space[STEWPIGEON_LONGEST];
+
+    memset(space, fill, sizeof space);
+    refilled(line);
+    KEEP(kept, *line);
+    KEEP(kept_texts, *texts);
+    EXPECT(stewpigeon_sender_clock_in(&line->record, texts->record, clock, space, sizeof space) == 0);
+    EXPECT(line->record.clock == clock);
+    kept.record.clock = clock;
+    EXPECT(SAME(kept, *line) && SAME(kept_texts, *texts) && are(space, sizeof space, fill));
+}
+
+static void stays(void)
+{
+    struct guarded_record line, kept;
+    struct guarded_texts texts;
+    struct stewpigeon_sender_record *sender = &line.record;
+    uint8_t space[STEWPIGEON_LONGEST];
+
+    opened_fields(&line, &texts);
+    EXPECT(stewpigeon_sender_offer_in(sender, texts.record, 5, (const uint8_t *)"AB", 2) == 0);
+    refused(&line, &texts);
+    EXPECT(stewpigeon_sender_clock_in(sender, texts.record, 6, space, sizeof space) == 15);
+    quiet(&line, &texts, 305);
+
+    /* A refused opening gives zeros. */
+    FILLED(line);
+    FILLED(texts);
+    EXPECT(stewpigeon_sender_open_in(sender, texts.record, 5, 300, 98, 100, 1, 1, 1) == STEWPIGEON_REFUSED_LEVEL);
+    EXPECT(UNTOUCHED(line) && UNTOUCHED(texts));
+    EXPECT(sender->settings.level == 0 && sender->settings.buffering == 0);
+    EXPECT(sender->settings.t140 == 0 && sender->settings.red == 0);
+    EXPECT(sender->settings.sequence == 0 && sender->settings.timestamp == 0 && sender->settings.source == 0);
+    EXPECT(sender->clock == 0 && sender->room == 0 && sender->len == 0 && sender->since == 0);
+    for (size_t k = 0; k < STEWPIGEON_LEVELS; k++)
+        EXPECT(sender->lens[k] == 0 && sender->ats[k] == 0);
+    EXPECT(sender->count == 0 && sender->progress.sent == 0 && sender->progress.last == 0);
+    EXPECT(sender->progress.last_text == 0 && sender->progress.next == 0);
+    EXPECT(are(texts.record, STEWPIGEON_TEXTS, 0));
+
+    /* And it refuses every call. */
+    refilled(&line);
+    KEEP(kept, line);
+    memset(space, fill, sizeof space);
+    EXPECT(stewpigeon_sender_offer_in(sender, texts.record, 0, space, 1) == STEWPIGEON_REFUSED_BUFFERING);
+    EXPECT(stewpigeon_sender_clock_in(sender, texts.record, 0, space, sizeof space) == -STEWPIGEON_REFUSED_BUFFERING);
+    EXPECT(SAME(kept, line) && are(texts.record, STEWPIGEON_TEXTS, 0) && are(space, sizeof space, fill));
+}
+
+/* 0 is false, all else true: a packet sent makes the byte 1, and every other call leaves it. */
+static void every_flag(void)
+{
+    struct guarded_record line;
+    struct guarded_texts texts;
+    struct stewpigeon_sender_record *sender = &line.record;
+    uint8_t space[STEWPIGEON_LONGEST];
+
+    for (unsigned flag = 0; flag < 256; flag++) {
+        opened_fields(&line, &texts);
+        sender->progress.sent = (uint8_t)flag;
+        quiet(&line, &texts, 5);
+        EXPECT(stewpigeon_sender_offer_in(sender, texts.record, 5, (const uint8_t *)"AB", 2) == 0);
+        EXPECT(sender->progress.sent == flag);
+        refused(&line, &texts);
+        /* Before the buffering time is over, nothing is due unless no packet was sent yet. */
+        if (flag != 0)
+            quiet(&line, &texts, 299);
+        EXPECT(stewpigeon_sender_clock_in(sender, texts.record, 300, space, sizeof space) == 15);
+        EXPECT(sender->progress.sent == 1 && space[1] == (flag == 0 ? 0xE4 : 0x64));
+        EXPECT(UNTOUCHED(line) && UNTOUCHED(texts));
+    }
+}
+
+/* The calls on a whole sender are those on its parts. */
+static void whole_sender(void)
+{
+    struct guarded_sender line;
+    const struct stewpigeon_sender *sender = &line.record;
+    uint8_t packet[STEWPIGEON_LONGEST];
+
+    FILLED(line);
+    EXPECT(stewpigeon_sender_open(&line.record, 4, 1, 98, 100, 7, 1000, 0x11223344) == 0);
+    EXPECT(UNTOUCHED(line) && are(sender->texts, STEWPIGEON_TEXTS, 0) && sender->record.settings.level == 4);
+    EXPECT(stewpigeon_sender_offer(&line.record, 3, (const uint8_t *)"AB", 2) == 0);
+    EXPECT(UNTOUCHED(line) && memcmp(sender->texts, "AB", 2) == 0 && are(sender->texts + 2, STEWPIGEON_TEXTS - 2, 0));
+    EXPECT(stewpigeon_sender_clock(&line.record, 3, packet, sizeof packet) == 15);
+    EXPECT(UNTOUCHED(line) && memcmp(packet + 13, "AB", 2) == 0 && sender->record.progress.next == 8);
+}
+
+void layout_of_the_sender(void)
+{
+    every_field();
+    slots();
+    stays();
+    every_flag();
+    whole_sender();
+}

@@ -1,0 +1,123 @@
+//! Every byte in a flag, in calls of every outcome: 0 is false and all else
+//! true.
+
+use super::super::held::Held;
+use super::super::tally::{Answer, Tally};
+use super::receivers::step_of;
+use super::sender;
+use super::senders::{clock_call_on, offer_to};
+use crate::plan::{Plan, RED, T140};
+use crate::random::Random;
+use stewpigeon::lent::{Progress, Receiver, Sender, Settings};
+
+fn same(answer: Answer, due: Answer) -> Result<(), String> {
+    match answer == due {
+        true => Ok(()),
+        false => Err(format!("answered {answer}, and {due} is due")),
+    }
+}
+
+/// Steps of a receiver that has heard the packet's source or, with 0 in its
+/// flag, none.
+fn steps(random: &mut Random, has_source: u8, tally: &mut Tally) -> Result<(), String> {
+    let count = random.below(5);
+    let plan = Plan::small_red(random, count);
+    let packet = plan.bytes();
+    let receiver = Receiver {
+        t140: T140,
+        red: RED,
+        has_source,
+        source: plan.source,
+        expected: plan.sequence.wrapping_sub(random.below(32_768) as u16),
+    };
+    let behind = random.within(1, 32_768) as u16;
+    let late = Receiver {
+        expected: plan.sequence.wrapping_add(behind),
+        ..receiver
+    };
+    let other_source = Receiver {
+        source: !plan.source,
+        ..receiver
+    };
+    let heard = |due| match has_source {
+        0 => Answer::Done("forward"),
+        _ => due,
+    };
+    for (receiver, packet, due) in [
+        (receiver, &packet[..], Answer::Done("forward")),
+        (late, &packet, heard(Answer::Done("late"))),
+        (receiver, &packet[..11], Answer::Refused(10)),
+        (other_source, &packet, heard(Answer::Refused(16))),
+    ] {
+        same(step_of(random, receiver, packet, tally)?, due)?;
+    }
+    Ok(())
+}
+
+/// A sender of anything else with this flag, whose last packet was sent at
+/// its clock.
+fn flagged(random: &mut Random, sent: u8) -> Held {
+    let held = sender(random);
+    let clock = random.number() >> 1;
+    let record = Sender {
+        settings: Settings {
+            level: random.below(5),
+            buffering: random.within(1, 500) as u64,
+            t140: T140,
+            red: RED,
+            ..held.record.settings
+        },
+        clock,
+        progress: Progress {
+            sent,
+            last: clock,
+            ..held.record.progress
+        },
+        ..held.record
+    };
+    Held { record, ..held }
+}
+
+fn offers(random: &mut Random, sent: u8, tally: &mut Tally) -> Result<(), String> {
+    let mut held = flagged(random, sent);
+    let clock = held.record.clock;
+    held.record.len = random.below(160);
+    let taken = offer_to(random, &held, clock, b"a", tally)?;
+    same(taken, Answer::Done("taken"))?;
+    let refused = offer_to(random, &held, clock, b"", tally)?;
+    same(refused, Answer::Refused(7))
+}
+
+fn clock_calls(random: &mut Random, sent: u8, tally: &mut Tally) -> Result<(), String> {
+    let mut held = flagged(random, sent);
+    let (clock, buffering) = (held.record.clock, held.record.settings.buffering);
+    held.record.len = random.within(1, 160);
+    // Text waits, and may go at once or when the buffering time is over.
+    let early = match sent {
+        0 => Answer::Done("sent"),
+        _ => Answer::Done("quiet"),
+    };
+    for (at, space, due) in [
+        (clock, 900, early),
+        (clock + buffering - 1, 900, early),
+        (clock + buffering, 900, Answer::Done("sent")),
+        (clock + buffering, 12, Answer::Refused(8)),
+        (clock.wrapping_sub(1), 900, Answer::Refused(5)),
+    ] {
+        same(clock_call_on(random, &held, at, space, tally)?, due)?;
+    }
+    // Nothing waits, and nothing is to be repeated.
+    (held.record.len, held.record.count) = (0, 0);
+    let quiet = clock_call_on(random, &held, clock + buffering, 900, tally)?;
+    same(quiet, Answer::Done("quiet"))
+}
+
+pub fn run(random: &mut Random, tally: &mut Tally) -> Result<(), String> {
+    for value in 0..=255 {
+        steps(random, value, tally)
+            .and_then(|()| offers(random, value, tally))
+            .and_then(|()| clock_calls(random, value, tally))
+            .map_err(|difference| format!("{value} in a flag: {difference}"))?;
+    }
+    Ok(())
+}

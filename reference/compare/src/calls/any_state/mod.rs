@@ -1,0 +1,114 @@
+//! Calls on records of any values, held against the rules: each is answered,
+//! the same again on the same record, and touches nothing else.
+
+mod flags;
+mod receivers;
+mod senders;
+
+use super::held::{Held, LEVEL, ROOM, SLOTS};
+use super::tally::Tally;
+use crate::random::Random;
+use stewpigeon::lent;
+
+/// A length or count, its bounds being likely.
+fn size(random: &mut Random, bound: usize) -> usize {
+    let any = random.number() as usize;
+    let within = random.within(0, bound);
+    random.pick(&[
+        0,
+        1,
+        bound - 1,
+        bound,
+        bound + 1,
+        within,
+        within,
+        any,
+        usize::MAX,
+    ])
+}
+
+/// A time before, at or after this one, across the clock's end, or any.
+fn time(random: &mut Random, clock: u64) -> u64 {
+    let any = random.number();
+    let near = random.within(0, 1000) as u64;
+    let ago = random.pick(&[0, 1, 300, 500, near, 16_383, 16_384]);
+    match random.below(8) {
+        0 => any,
+        1 => clock.saturating_add(near),
+        2 => clock.wrapping_sub(ago),
+        _ => clock.saturating_sub(ago),
+    }
+}
+
+/// A flag: any byte, 0 being likely.
+fn flag(random: &mut Random) -> u8 {
+    let any = random.byte();
+    random.pick(&[0, 1, any, any])
+}
+
+fn settings(random: &mut Random) -> lent::Settings {
+    let any = random.number();
+    let level = random.below(5);
+    let mut settings = lent::Settings {
+        level: size(random, 4),
+        buffering: random.pick(&[0, 1, 300, 500, 501, any]),
+        t140: random.byte(),
+        red: random.byte(),
+        sequence: random.number() as u16,
+        timestamp: random.number() as u32,
+        source: random.number() as u32,
+    };
+    // Mostly such that the calls go on.
+    if !random.once_in(8) {
+        settings.level = level;
+    }
+    if !random.once_in(8) {
+        settings.buffering = random.within(1, 500) as u64;
+    }
+    if !random.once_in(8) {
+        settings.t140 = random.within(96, 111) as u8;
+        settings.red = random.within(112, 127) as u8;
+    }
+    settings
+}
+
+/// A sender's record and texts with anything in them.
+pub fn sender(random: &mut Random) -> Held {
+    let any = random.number();
+    let clock = random.pick(&[0, 1000, 20_000, any, u64::MAX - 600, u64::MAX]);
+    let record = lent::Sender {
+        settings: settings(random),
+        clock,
+        room: size(random, LEVEL),
+        len: size(random, ROOM),
+        since: time(random, clock),
+        lens: [(); LEVEL].map(|()| size(random, ROOM)),
+        ats: [(); LEVEL].map(|()| time(random, clock)),
+        count: size(random, LEVEL),
+        progress: lent::Progress {
+            sent: flag(random),
+            last: time(random, clock),
+            last_text: time(random, clock),
+            next: random.number() as u16,
+        },
+    };
+    let texts = texts(random);
+    Held { record, texts }
+}
+
+/// Texts of any bytes.
+pub fn texts(random: &mut Random) -> lent::Texts {
+    let mut texts = [0; SLOTS * ROOM];
+    texts.fill_with(|| random.byte());
+    texts
+}
+
+pub fn run(random: &mut Random, calls: usize, tally: &mut Tally) -> Result<(), String> {
+    flags::run(random, tally)?;
+    for _ in 0..calls / 4 {
+        senders::offer(random, tally)?;
+        senders::clock_call(random, tally)?;
+        receivers::step(random, tally)?;
+    }
+    Ok(())
+}

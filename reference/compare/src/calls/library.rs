@@ -1,0 +1,166 @@
+//! The library's calls. What is lent lies among bytes filled anew for each
+//! call; what a call must leave is looked at here, byte by byte.
+
+use std::hint::black_box;
+
+use super::held::Held;
+use crate::patterns::{filled, guarded, Lent};
+use crate::random::Random;
+use stewpigeon::lent::{self, Guarded, Receiver, Sender, Settings, Step, Texts};
+
+/// What a call answered; or which bytes changed that must stay.
+pub type Answered<T> = Result<T, &'static str>;
+
+fn demand(holds: bool, otherwise: &'static str) -> Answered<()> {
+    match holds {
+        true => Ok(()),
+        false => Err(otherwise),
+    }
+}
+
+pub fn receiver_open(random: &mut Random, t140: u8, red: u8) -> Answered<(u8, Receiver)> {
+    let mut receiver = filled(random);
+    let before = receiver.clone();
+    let number = lent::receiver_open(&mut receiver, t140, red);
+    demand(
+        receiver.around() == before.around(),
+        "bytes around the receiver changed",
+    )?;
+    Ok((number, receiver.value()))
+}
+
+/// A step, or the refusal's number.
+pub fn step(
+    random: &mut Random,
+    receiver: &mut Receiver,
+    packet: &[u8],
+) -> Answered<Result<Step, u8>> {
+    let mut record = guarded(random, *receiver);
+    let mut step = filled::<Step>(random);
+    let packet = Lent::new(random, packet);
+    let before = (record.clone(), step.clone(), packet.clone());
+    let number = lent::receiver_step(&mut record, packet.bytes(), &mut step);
+    *receiver = record.value();
+    demand(
+        *black_box(&packet) == before.2,
+        "bytes of the packet or around it changed",
+    )?;
+    let same_record = record.bytes() == before.0.bytes();
+    if number != 0 {
+        demand(same_record, "a refusal changed bytes of the receiver")?;
+        demand(
+            step.bytes() == before.1.bytes(),
+            "a refusal changed bytes of the step",
+        )?;
+        return Ok(Err(number));
+    }
+    demand(
+        record.around() == before.0.around() && step.around() == before.1.around(),
+        "bytes around the receiver or the step changed",
+    )?;
+    let step = step.value();
+    demand(
+        step.late == 0 || same_record,
+        "a late packet changed bytes of the receiver",
+    )?;
+    Ok(Ok(step))
+}
+
+/// A sender's record and texts lent apart.
+#[derive(Clone)]
+struct Lending {
+    record: Guarded<Sender>,
+    texts: Guarded<Texts>,
+}
+
+impl Lending {
+    fn new(random: &mut Random, held: &Held) -> Lending {
+        Lending {
+            record: guarded(random, held.record),
+            texts: guarded(random, held.texts),
+        }
+    }
+
+    fn held(&self) -> Held {
+        Held {
+            record: self.record.value(),
+            texts: self.texts.value(),
+        }
+    }
+
+    /// Every byte stayed.
+    fn is(&self, before: &Lending) -> bool {
+        self.record.bytes() == before.record.bytes() && self.same_texts(before)
+    }
+
+    fn same_texts(&self, before: &Lending) -> bool {
+        self.texts.bytes() == before.texts.bytes()
+    }
+
+    /// Nothing was written outside record and texts.
+    fn around(&self, before: &Lending) -> Answered<()> {
+        demand(
+            self.record.around() == before.record.around()
+                && self.texts.around() == before.texts.around(),
+            "bytes around record or texts changed",
+        )
+    }
+}
+
+pub fn sender_open(random: &mut Random, settings: Settings) -> Answered<(u8, Held)> {
+    let mut sender = Lending {
+        record: filled(random),
+        texts: filled(random),
+    };
+    let before = sender.clone();
+    let number = lent::sender_open(&mut sender.record, &mut sender.texts, settings);
+    sender.around(&before)?;
+    Ok((number, sender.held()))
+}
+
+pub fn offer(random: &mut Random, held: &mut Held, clock: u64, text: &[u8]) -> Answered<u8> {
+    let mut sender = Lending::new(random, held);
+    let text = Lent::new(random, text);
+    let before = (sender.clone(), text.clone());
+    let number = lent::sender_offer(&mut sender.record, &mut sender.texts, clock, text.bytes());
+    *held = sender.held();
+    demand(
+        *black_box(&text) == before.1,
+        "bytes of the text or around it changed",
+    )?;
+    demand(
+        number == 0 || sender.is(&before.0),
+        "a refusal changed bytes of record or texts",
+    )?;
+    sender.around(&before.0)?;
+    Ok(number)
+}
+
+pub fn clock(random: &mut Random, held: &mut Held, clock: u64, space: &mut Lent) -> Answered<i64> {
+    let mut sender = Lending::new(random, held);
+    let mut before = (sender.clone(), space.clone());
+    let answer = lent::sender_clock(&mut sender.record, &sender.texts, clock, space.bytes_mut());
+    *held = sender.held();
+    demand(
+        black_box(&sender).same_texts(&before.0),
+        "bytes of the texts or around them changed",
+    )?;
+    demand(
+        answer > 0 || *space == before.1,
+        "bytes of the space changed without a packet",
+    )?;
+    if answer == 0 {
+        let record = before.0.record.value();
+        before.0.record.set(Sender { clock, ..record });
+        demand(
+            sender.is(&before.0),
+            "a quiet call wrote more than the clock",
+        )?;
+    }
+    demand(
+        answer >= 0 || sender.is(&before.0),
+        "a refusal changed bytes of record or texts",
+    )?;
+    sender.around(&before.0)?;
+    Ok(answer)
+}
