@@ -1,3 +1,4 @@
 pub mod Arrays
 pub mod Checks
 pub mod Every
+pub mod Flags

@@ -122,13 +122,12 @@ fn put_heads(
     let mut at = 0;
     while 0 < i {
         i -= 1;
-        if count <= i {
-            continue;
+        if i < count {
+            let sent = ats[i];
+            let len = lens[i];
+            put_head(&mut to[at..], t140, clock, sent, len);
+            at += 4;
         }
-        let sent = ats[i];
-        let len = lens[i];
-        put_head(&mut to[at..], t140, clock, sent, len);
-        at += 4;
     }
     to[at] = t140;
 }

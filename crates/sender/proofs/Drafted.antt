@@ -6,6 +6,7 @@ use mathlib.Core.Bool.{Bool, cond, not, _||_, _&&_}
 use native.Mathlib.Omega.{arith}
 use lib.Dec.{ltb, eqb}
 use lib.ListN.{length}
+use Rattle.base.specs.Flags.{isSet}
 use Rattle.sender.specs.declared.Sender.{Sender}
 use Rattle.packet_spec.specs.Reading.{Content}
 use Rattle.packet_spec.specs.Encoding.{plainBytes, redundantBytes}
@@ -35,5 +36,5 @@ packet-is s texts t size ok =
     let a : t140 % 128 ≡ t140 = omega arith in
     let b : red % 128 ≡ red = omega arith in
     let content : Draft.contentOf (draftOf s t) texts ≡ contentOf (stateOf s texts) t =
-    ap (marked (contentOf (stateOf s texts) t)) (ap (λ (w : Bool). not (s .progress .sent) || (w && ltb (s .settings .buffering) (s .waiting .since - s .progress .«last_text»))) (sym (waiting-some texts size (s .waiting .room) (s .waiting .len)))) in
+    ap (marked (contentOf (stateOf s texts) t)) (ap (λ (w : Bool). not (isSet (s .progress .sent)) || (w && ltb (s .settings .buffering) (s .waiting .since - s .progress .«last_text»))) (sym (waiting-some texts size (s .waiting .room) (s .waiting .len)))) in
     λ i. cond (eqb (s .settings .level) 0) (plainBytes (a i) (content i)) (redundantBytes (a i) (b i) (content i))

@@ -4,6 +4,7 @@ use mathlib.Core.Path.{_≡_}
 use mathlib.Core.List.{List}
 use mathlib.Core.Bool.{not, _||_, _&&_}
 use lib.Dec.{ltb}
+use Rattle.base.specs.Flags.{isSet}
 use Rattle.sender.specs.declared.Sender.{Sender}
 use Rattle.sender_spec.specs.Clocking.{clockOf}
 use Rattle.writer.specs.declared.Draft.{Draft}
@@ -11,7 +12,7 @@ use Rattle.writer.specs.declared.Answer.{Answer}
 use Rattle.writer.specs.declared.Answer.the-variants.{Refused, Quiet, Sent}
 use Rattle.writer.specs.Draft.{answered}
 use Rattle.slots.specs.Held.{emptiedOf, keptWith}
-use Rattle.settings.specs.State.{settingsOf, progressOf, progressAfter}
+use Rattle.settings.specs.State.{settingsOf, progressOf, progressBehind}
 use Rattle.settings.specs.Judging.{Judgement, judgementOf}
 use Rattle.sender.specs.State.{stateOf}
 
@@ -25,7 +26,7 @@ draftOf s t = record {
   level = s .settings .level;
   t140 = s .settings .t140;
   red = s .settings .red;
-  marker = not (s .progress .sent) || (ltb 0 (s .waiting .len) && ltb (s .settings .buffering) (s .waiting .since - s .progress .«last_text»));
+  marker = not (isSet (s .progress .sent)) || (ltb 0 (s .waiting .len) && ltb (s .settings .buffering) (s .waiting .since - s .progress .«last_text»));
   sequence = s .progress .next;
   timestamp = (s .settings .timestamp + t) % 4294967296;
   source = s .settings .source;
@@ -54,7 +55,7 @@ recordAfter s t = record {
   clock = t;
   waiting = emptiedOf (s .waiting);
   kept = keptWith (s .kept) (s .waiting .len) t;
-  progress = progressAfter (s .progress) (s .waiting .len) t;
+  progress = progressBehind (s .progress) (s .waiting .len) t;
 }
 
 abbrev pub recordBehind : Answer → Sender → ℕ → Sender

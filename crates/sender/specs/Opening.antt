@@ -2,7 +2,6 @@
 use Prim.Native.Nat.{ℕ}
 use mathlib.Core.Path.{_≡_}
 use mathlib.Core.List.{List}
-use mathlib.Core.Bool.{false}
 use lib.ListN.{replicate}
 use Rattle.settings.specs.declared.Settings.{Settings}
 use Rattle.sender.specs.declared.Sender.{Sender}
@@ -22,7 +21,7 @@ freshOf s = record {
   clock = 0;
   waiting = record { room = 0; len = 0; since = 0 };
   kept = record { lens = replicate level 0; ats = replicate level 0; count = 0 };
-  progress = record { sent = false; last = 0; «last_text» = 0; next = s .sequence };
+  progress = record { sent = 0; last = 0; «last_text» = 0; next = s .sequence };
 }
 
 abbrev pub zeros : Sender

@@ -12,7 +12,7 @@ pub fn fresh(settings: Settings) -> Sender
     ensures { λ r. ⌜ r ≡ Opening.freshOf settings ⌝ }
 {
     let progress = Progress {
-        sent: false,
+        sent: 0,
         last: 0,
         last_text: 0,
         next: settings.sequence,

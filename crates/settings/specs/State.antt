@@ -1,7 +1,8 @@
 -- The code's settings and progress as those of 01.
 use Prim.Native.Nat.{ℕ}
-use mathlib.Core.Bool.{true, cond}
+use mathlib.Core.Bool.{cond}
 use lib.Dec.{ltb}
+use Rattle.base.specs.Flags.{isSet}
 use Rattle.delivery.specs.Numbers.{next}
 use Rattle.settings.specs.declared.Settings.{Settings}
 use Rattle.settings.specs.declared.Progress.{Progress}
@@ -19,8 +20,8 @@ settingsOf s = record {
 }
 
 abbrev pub progressOf : Progress → State.Progress
-progressOf p = record { sent = p .sent; last = p .last; lastText = p .«last_text»; next = p .next }
+progressOf p = record { sent = isSet (p .sent); last = p .last; lastText = p .«last_text»; next = p .next }
 
 -- behind a packet that takes so many bytes at clock t
-abbrev pub progressAfter : Progress → ℕ → ℕ → Progress
-progressAfter p n t = record { sent = true; last = t; «last_text» = cond (ltb 0 n) t (p .«last_text»); next = next (p .next) }
+abbrev pub progressBehind : Progress → ℕ → ℕ → Progress
+progressBehind p n t = record { sent = 1; last = t; «last_text» = cond (ltb 0 n) t (p .«last_text»); next = next (p .next) }

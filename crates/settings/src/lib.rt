@@ -3,10 +3,11 @@ ghost use mathlib.Core.Path.{_≡_};
 ghost use mathlib.Core.Bool.{cond, not, _||_, _&&_};
 ghost use lib.Dec.{ltb};
 ghost use Prim.Native.Nat.{_+_, _-_, _%_};
+ghost use Rattle.base.specs.Flags.{isSet};
 ghost use Rattle.packet.specs.Refusal.{outcomeNumber};
 ghost use Rattle.sender_spec.specs.Settings.{bufferingBad, settingsNumber};
 ghost use Rattle.sender_spec.specs.Packets.{readyAt};
-ghost use Rattle.settings.specs.State.{settingsOf, progressOf, progressAfter};
+ghost use Rattle.settings.specs.State.{settingsOf, progressOf, progressBehind};
 ghost use Rattle.settings.specs.Judging.{judged, isQuiet, judgementOf};
 use packet::Outcome;
 use packet::Packet;
@@ -35,7 +36,8 @@ impl Settings {
 // Whether a packet was sent, when the last one was, when the last one with text was, and the next sequence number.
 #[repr(C)]
 pub struct Progress {
-    pub sent: bool,
+    // 0 until a packet was sent; every other value counts as 1.
+    pub sent: u8,
     pub last: u64,
     pub last_text: u64,
     pub next: u16,
@@ -101,8 +103,7 @@ fn passed(clock: u64, from: u64) -> u64
 fn ready(progress: Progress, buffering: u64, clock: u64) -> bool
     ensures { λ r. ⌜ r ≡ readyAt buffering (progressOf progress) clock ⌝ }
 {
-    let sent = progress.sent;
-    if sent {
+    if progress.has_sent() {
         let waited = passed(clock, progress.last);
         return buffering <= waited;
     }
@@ -129,10 +130,9 @@ pub fn judge(settings: Settings, latest: u64, progress: Progress, clock: u64) ->
 
 // M of a packet, by whether text waits, and when its first byte was offered.
 pub fn marker(progress: Progress, buffering: u64, waits: bool, since: u64) -> bool
-    ensures { λ r. ⌜ r ≡ (not (progress .sent) || (waits && ltb buffering (since - progress .«last_text»))) ⌝ }
+    ensures { λ r. ⌜ r ≡ (not (isSet (progress .sent)) || (waits && ltb buffering (since - progress .«last_text»))) ⌝ }
 {
-    let sent = progress.sent;
-    if !sent {
+    if !progress.has_sent() {
         return true;
     }
     if !waits {
@@ -161,14 +161,21 @@ fn last_text(len: usize, before: u64, clock: u64) -> u64
 }
 
 impl Progress {
+    // Whether a packet was sent.
+    pub fn has_sent(self) -> bool
+        ensures { λ r. ⌜ r ≡ isSet (self .sent) ⌝ }
+    {
+        self.sent != 0
+    }
+
     // Behind a packet that takes so many bytes.
     pub fn after(self, len: usize, clock: u64) -> Progress
-        ensures { λ r. ⌜ r ≡ progressAfter self len clock ⌝ }
+        ensures { λ r. ⌜ r ≡ progressBehind self len clock ⌝ }
     {
         let last_text = last_text(len, self.last_text, clock);
         let next = std::num::wrapping_add_u16(self.next, 1);
         Progress {
-            sent: true,
+            sent: 1,
             last: clock,
             last_text,
             next,

@@ -50,11 +50,10 @@ pub fn put_texts(
     while 0 < i {
         let back = i;
         i -= 1;
-        if count <= i {
-            continue;
+        if i < count {
+            let n = lens[i];
+            at += put_text(&mut to[at..], texts, room, back, n);
         }
-        let n = lens[i];
-        at += put_text(&mut to[at..], texts, room, back, n);
     }
     put_text(&mut to[at..], texts, room, 0, len);
 }

@@ -29,11 +29,11 @@ room c =
     turn-room (headAt (a .t140) (a .clock) (a .t4) (a .t5)) (a .t140 ∷ []) (a .count) (now (a .to)) (l .to) (l .i) (l .at) (l .inv .1) (c .before .before .pre .2)
 
 -- the next header fits
-fits : (c : tie.Else1 Inv-loop μ-loop) → c .before .before .loop .at + 4 ≤ length (now (c .before .before .before .before .args .to))
+fits : (c : tie.Then1 Inv-loop μ-loop) → c .before .before .loop .at + 4 ≤ length (now (c .before .before .before .before .args .to))
 fits c =
     let a = c .before .before .before .before .args in
     let l = c .before .before .loop in
-    turn-fits (headAt (a .t140) (a .clock) (a .t4) (a .t5)) (a .t140 ∷ []) (a .count) (now (a .to)) (l .to) (l .i) (l .at) (l .inv .1) (c .before .before .before .before .pre .2) (c .before .loop-test .taken) (omega (arith, c .if1 .left))
+    turn-fits (headAt (a .t140) (a .clock) (a .t4) (a .t5)) (a .t140 ∷ []) (a .count) (now (a .to)) (l .to) (l .i) (l .at) (l .inv .1) (c .before .before .before .before .pre .2) (c .before .loop-test .taken) (c .if1 .taken)
 
 -- none is left but the primary's
 left : (c : tie.After-loop Inv-loop μ-loop) → let a = c .before .before .before .args in
@@ -63,15 +63,6 @@ loop-holds c =
 
 sub-i : tie.Need-sub-i Inv-loop μ-loop
 sub-i c = c .loop-test .taken
-
-loop-less : tie.Need-loop-less Inv-loop μ-loop
-loop-less c = omega arith
-
-loop-again : tie.Need-loop-again Inv-loop μ-loop
-loop-again c =
-    let a = c .before .before .before .before .args in
-    let l = c .before .before .loop in
-    (omega arith, turn-past (headAt (a .t140) (a .clock) (a .t4) (a .t5)) (a .t140 ∷ []) (a .count) (now (a .to)) (l .to) (l .i) (l .at) (l .inv .1) (c .if1 .taken))
 
 mul-sent : tie.Need-mul-sent Inv-loop μ-loop
 mul-sent c = search needs
@@ -104,16 +95,25 @@ put-head-requires c κs =
 add-at : tie.Need-add-at Inv-loop μ-loop
 add-at c = let t = c .before .before .before .before in omega (arith, room (t .before .before), fits t)
 
+loop-less : tie.Need-loop-less Inv-loop μ-loop
+loop-less c = omega arith
+
+loop-again : tie.Need-loop-again Inv-loop μ-loop
+loop-again c =
+    let q = c .before .before .put-head in
+    let t = c .before .before .before .before in
+    let a = t .before .before .before .before .args in
+    let l = t .before .before .loop in
+    (omega arith, turn-next (headAt (a .t140) (a .clock) (a .t4) (a .t5)) (a .t140 ∷ []) (a .count) (now (a .to)) (l .to) (l .i) (l .at) (l .inv .1) (t .before .before .before .before .pre .2) (t .before .loop-test .taken) (t .if1 .taken) (q .last .0) (q .ensures))
+
 loop-less-2 : tie.Need-loop-less-2 Inv-loop μ-loop
 loop-less-2 c = omega arith
 
 loop-again-2 : tie.Need-loop-again-2 Inv-loop μ-loop
 loop-again-2 c =
-    let q = c .before .before .put-head in
-    let t = c .before .before .before .before in
-    let a = t .before .before .before .before .args in
-    let l = t .before .before .loop in
-    (omega arith, turn-next (headAt (a .t140) (a .clock) (a .t4) (a .t5)) (a .t140 ∷ []) (a .count) (now (a .to)) (l .to) (l .i) (l .at) (l .inv .1) (t .before .before .before .before .pre .2) (t .before .loop-test .taken) (omega (arith, t .if1 .left)) (q .last .0) (q .ensures))
+    let a = c .before .before .before .before .args in
+    let l = c .before .before .loop in
+    (omega arith, turn-past (headAt (a .t140) (a .clock) (a .t4) (a .t5)) (a .t140 ∷ []) (a .count) (now (a .to)) (l .to) (l .i) (l .at) (l .inv .1) (c .if1 .left))
 
 slice-write-to : tie.Need-slice-write-to Inv-loop μ-loop
 slice-write-to c = omega (arith, room (c .before), ends c)
@@ -134,8 +134,6 @@ put-heads-spec =
     μ-loop
     loop-holds
     sub-i
-    loop-less
-    loop-again
     mul-sent
     array-read-sent
     mul-len
@@ -145,6 +143,8 @@ put-heads-spec =
     part-put-head-end
     put-head-requires
     add-at
+    loop-less
+    loop-again
     loop-less-2
     loop-again-2
     slice-write-to

@@ -1,19 +1,29 @@
+use mathlib.Core.Path.{_∙_, sym}
 use borrow.Author.Tests.{not-true, not-false}
 use borrow.Author.Needs.{needs}
 use Rattle.settings.proofs.marker.Statement.{statement}
 use Rattle.settings.proofs.marker.Tie as tie
 
+has-sent-requires : tie.Need-has-sent-requires
+has-sent-requires c κs = search needs
+
 returns : tie.Need-returns
-returns c = search needs
+returns c =
+    let h = c .before .has-sent in
+    rw (sym (h .ensures) ∙ not-true (h .result) (c .if1 .taken))
 
 returns-2 : tie.Need-returns-2
-returns-2 c = rw (c .before .if1 .left, not-true (c .before .before .args .waits) (c .if2 .taken))
+returns-2 c =
+    let h = c .before .before .has-sent in
+    rw (sym (h .ensures) ∙ not-false (h .result) (c .before .if1 .left), not-true (c .before .before .before .args .waits) (c .if2 .taken))
 
 passed-requires : tie.Need-passed-requires
 passed-requires c κs = search needs
 
 returns-3 : tie.Need-returns-3
-returns-3 c = rw (c .before .before .if1 .left, not-false (c .before .before .before .args .waits) (c .before .if2 .left), c .passed .ensures)
+returns-3 c =
+    let h = c .before .before .before .has-sent in
+    rw (sym (h .ensures) ∙ not-false (h .result) (c .before .before .if1 .left), not-false (c .before .before .before .before .args .waits) (c .before .if2 .left), c .passed .ensures)
 
 pub marker-spec : {M : Type 1} → statement M
-marker-spec = tie.close (tie.spec returns returns-2 passed-requires returns-3)
+marker-spec = tie.close (tie.spec has-sent-requires returns returns-2 passed-requires returns-3)

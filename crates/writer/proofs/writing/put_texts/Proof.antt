@@ -29,10 +29,10 @@ room c =
     let l = c .loop in
     turn-room (textAt (now (a .texts)) (a .room) (a .t4)) (waitingAt (now (a .texts)) (a .room) (a .len)) (a .count) (now (a .to)) (l .to) (l .i) (l .at) (l .inv .1) (c .before .before .before .pre .2)
 
-abbrev block : tie.Else1 Inv-loop μ-loop → List ℕ
+abbrev block : tie.Then1 Inv-loop μ-loop → List ℕ
 block c = let a = c .before .before .before .before .before .args in textAt (now (a .texts)) (a .room) (a .t4) (c .before .before .loop .i - 1)
 
-text : (c : tie.Else1 Inv-loop μ-loop) → let a = c .before .before .before .before .before .args in let i = c .before .before .loop .i in
+text : (c : tie.Then1 Inv-loop μ-loop) → let a = c .before .before .before .before .before .args in let i = c .before .before .loop .i in
     textIn (now (a .texts)) (slotOf (a .room) i) (getD (a .t4) (i - 1) 0) ≡ block c
 text c =
     let a = c .before .before .before .before .before .args in
@@ -41,12 +41,12 @@ text c =
     ap (λ (back : ℕ). textIn (now (a .texts)) (slotOf (a .room) back) (getD (a .t4) (i - 1) 0)) e
 
 -- the next text fits
-fits : (c : tie.Else1 Inv-loop μ-loop) → let l = c .before .before .loop in l .at + length (block c) ≤ length (l .to)
+fits : (c : tie.Then1 Inv-loop μ-loop) → let l = c .before .before .loop in l .at + length (block c) ≤ length (l .to)
 fits c =
     let st = c .before .before .before .before .before in
     let a = st .args in
     let l = c .before .before .loop in
-    omega (arith, room (c .before .before), turn-fits (textAt (now (a .texts)) (a .room) (a .t4)) (waitingAt (now (a .texts)) (a .room) (a .len)) (a .count) (now (a .to)) (l .to) (l .i) (l .at) (l .inv .1) (st .pre .2) (c .before .loop-test .taken) (omega (arith, c .if1 .left)))
+    omega (arith, room (c .before .before), turn-fits (textAt (now (a .texts)) (a .room) (a .t4)) (waitingAt (now (a .texts)) (a .room) (a .len)) (a .count) (now (a .to)) (l .to) (l .i) (l .at) (l .inv .1) (st .pre .2) (c .before .loop-test .taken) (c .if1 .taken))
 
 -- none is left but what waits
 left : (c : tie.After-loop Inv-loop μ-loop) → let a = c .before .before .before .before .args in
@@ -80,15 +80,6 @@ loop-holds c =
 sub-i : tie.Need-sub-i Inv-loop μ-loop
 sub-i c = c .loop-test .taken
 
-loop-less : tie.Need-loop-less Inv-loop μ-loop
-loop-less c = omega arith
-
-loop-again : tie.Need-loop-again Inv-loop μ-loop
-loop-again c =
-    let a = c .before .before .before .before .before .args in
-    let l = c .before .before .loop in
-    (omega arith, turn-past (textAt (now (a .texts)) (a .room) (a .t4)) (waitingAt (now (a .texts)) (a .room) (a .len)) (a .count) (now (a .to)) (l .to) (l .i) (l .at) (l .inv .1) (c .if1 .taken))
-
 mul-n : tie.Need-mul-n Inv-loop μ-loop
 mul-n c = search needs
 
@@ -115,18 +106,27 @@ add-at c =
     let t = c .before .before .before .before in
     omega (arith, room (t .before .before), fits t, c .before .before .put-text .ensures .0, ap length (text t))
 
-loop-less-2 : tie.Need-loop-less-2 Inv-loop μ-loop
-loop-less-2 c = omega arith
+loop-less : tie.Need-loop-less Inv-loop μ-loop
+loop-less c = omega arith
 
-loop-again-2 : tie.Need-loop-again-2 Inv-loop μ-loop
-loop-again-2 c =
+loop-again : tie.Need-loop-again Inv-loop μ-loop
+loop-again c =
     let q = c .before .before .put-text in
     let t = c .before .before .before .before in
     let a = t .before .before .before .before .before .args in
     let l = t .before .before .loop in
     let e : q .result ≡ length (block t) = q .ensures .0 ∙ ap length (text t) in
     let w = q .ensures .1 ∙ ap (λ (x : List ℕ). over x (midOf (l .at) (length (l .to) - l .at) (l .to))) (text t) in
-    (omega arith, rw e (turn-next (textAt (now (a .texts)) (a .room) (a .t4)) (waitingAt (now (a .texts)) (a .room) (a .len)) (a .count) (now (a .to)) (l .to) (l .i) (l .at) (l .inv .1) (t .before .before .before .before .before .pre .2) (t .before .loop-test .taken) (omega (arith, t .if1 .left)) (q .last .0) w))
+    (omega arith, rw e (turn-next (textAt (now (a .texts)) (a .room) (a .t4)) (waitingAt (now (a .texts)) (a .room) (a .len)) (a .count) (now (a .to)) (l .to) (l .i) (l .at) (l .inv .1) (t .before .before .before .before .before .pre .2) (t .before .loop-test .taken) (t .if1 .taken) (q .last .0) w))
+
+loop-less-2 : tie.Need-loop-less-2 Inv-loop μ-loop
+loop-less-2 c = omega arith
+
+loop-again-2 : tie.Need-loop-again-2 Inv-loop μ-loop
+loop-again-2 c =
+    let a = c .before .before .before .before .before .args in
+    let l = c .before .before .loop in
+    (omega arith, turn-past (textAt (now (a .texts)) (a .room) (a .t4)) (waitingAt (now (a .texts)) (a .room) (a .len)) (a .count) (now (a .to)) (l .to) (l .i) (l .at) (l .inv .1) (c .if1 .left))
 
 sub-put-text-2 : tie.Need-sub-put-text-2 Inv-loop μ-loop
 sub-put-text-2 c = omega (arith, ends c)
@@ -163,8 +163,6 @@ put-texts-spec =
     μ-loop
     loop-holds
     sub-i
-    loop-less
-    loop-again
     mul-n
     array-read-n
     sub-put-text
@@ -172,6 +170,8 @@ put-texts-spec =
     part-put-text-end
     put-text-requires
     add-at
+    loop-less
+    loop-again
     loop-less-2
     loop-again-2
     sub-put-text-2
