@@ -5,7 +5,8 @@ use Prim.Native.Nat.{ℕ}
 use Rattle.receiver.specs.declared.Receiver.{Receiver}
 use Rattle.receiver.specs.declared.Advanced.{Advanced}
 use Rattle.receiver.specs.View.{receiverOf, answered, advanced}
-use Rattle.receiver_spec.specs.Step.{Step, Answered, stepOf}
+use Rattle.receiver_spec.specs.Step.{stepOf}
+use Rattle.receiver_spec.specs.Answers.{Step, Answered}
 use Rattle.counts.specs.declared.Counts.{Counts}
 use Rattle.counts.specs.Counts.{counted, wrapped, Counting}
 use Rattle.due.specs.declared.Due.{Due}

@@ -10,9 +10,8 @@ use lib.ListN.{length, getD, take, drop}
 use lib.Seq.{slice, drop-cons, drop-length, drop-drop, getD-take, length-take-le}
 use borrow.Author.Tests.{lt-ltb, le-ltb}
 use Rattle.packet.specs.declared.Older.{Older}
-use Rattle.packet_spec.specs.Redundancy.{Head}
+use Rattle.packet_spec.specs.Redundancy.{Head, total, olderOf, blocksOf, allText, areText}
 use Rattle.text_spec.specs.Utf8.{isText}
-use Rattle.packet_spec.specs.Redundancy.{total, olderOf, blocksOf, allText, areText}
 use Rattle.block_headers.specs.Seen.{seenHead, noHead}
 use Rattle.blocks.specs.Placing.{headPlaces}
 use Rattle.base.proofs.Slices.{take-slice, drop-slice}

@@ -5,9 +5,9 @@ use mathlib.Core.List.{List}
 use mathlib.Core.Bool.{Bool, true, false, cond}
 use Rattle.packet_spec.specs.Limits.{level}
 use Rattle.packet_spec.specs.Reading.{Read, holds, refused, reading}
-use Rattle.delivery.specs.Numbers.{Course, forward, late, courseOf, distance}
-use Rattle.receiver_spec.specs.Opening.{Receiver}
-use Rattle.receiver_spec.specs.Step.{sourceExpected, stepRead, firstStep, stepBy, stepOf}
+use Rattle.delivery.specs.Course.{courseOf, late, forward, Course, distance}
+use Rattle.receiver_spec.specs.State.{Receiver, sourceExpected}
+use Rattle.receiver_spec.specs.Step.{stepRead, firstStep, stepBy, stepOf}
 use Rattle.boundary.specs.declared.ReceiverRecord.{ReceiverRecord}
 use Rattle.boundary.specs.Receiving.{flag, bit, heldIn, recordOf, recordBehind}
 

@@ -11,7 +11,7 @@ use Rattle.packet.specs.declared.Refusal.{Refusal}
 use Rattle.receiver.specs.declared.Answer.{Answer}
 use Rattle.receiver.specs.declared.Answer.the-variants.{Refused, Late, Forward}
 use Rattle.receiver.specs.View.{answered}
-use Rattle.receiver_spec.specs.Step.{Answered, refuses, isLate, gives}
+use Rattle.receiver_spec.specs.Answers.{gives, isLate, refuses, Answered}
 use Rattle.receiver_spec.specs.Record.{lossOf}
 use Rattle.journal_spec.specs.Contents.{limit}
 use Rattle.counts.specs.declared.Counts.{Counts}

@@ -8,8 +8,10 @@ use lib.Dec.{ltb, eqb}
 use lib.ListN.{length, take, drop}
 use Rattle.counts.specs.declared.Counts.{Counts}
 use Rattle.packet_spec.specs.Header.{typesBad}
-use Rattle.receiver_spec.specs.Opening.{Receiver, openingOf, zeroReceiver}
-use Rattle.receiver_spec.specs.Step.{Answered, refuses, isLate, gives, stepOf}
+use Rattle.receiver_spec.specs.Opening.{openingOf}
+use Rattle.receiver_spec.specs.State.{zeroReceiver, Receiver}
+use Rattle.receiver_spec.specs.Step.{stepOf}
+use Rattle.receiver_spec.specs.Answers.{gives, isLate, refuses, Answered}
 use Rattle.journal_spec.specs.Records.{Record, ending, opening, beginning, piece, time, bad, recordsOf}
 use Rattle.journal_spec.specs.Contents.{Contents, opens, packet, ends, breaks, unopened, between, within, zeros, longestPacket, contentsOf, limit, journalOf}
 use Rattle.journal_spec.specs.Lines.{countsLine, brokenLine}

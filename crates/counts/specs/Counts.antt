@@ -5,7 +5,7 @@ use mathlib.Core.Bool.{Bool, true, _&&_}
 use mathlib.Core.List.{List}
 use lib.Dec.{leb}
 use Rattle.counts.specs.declared.Counts.{Counts}
-use Rattle.receiver_spec.specs.Step.{Answered, refuses, isLate, gives}
+use Rattle.receiver_spec.specs.Answers.{gives, isLate, refuses, Answered}
 use Rattle.journal_spec.specs.Contents.{limit}
 use Rattle.journal_spec.specs.Lines.{countsLine}
 

@@ -9,8 +9,9 @@ use native.Mathlib.Omega.{arith}
 use lib.Dec.{ltb}
 use lib.ListN.{length, replicate}
 use borrow.Author.Tests.{ltb-true, ltb-false}
-use Rattle.delivery.specs.Numbers.{mostAhead, mostBehind, wrapped, next, distance, Course}
-use Rattle.delivery.specs.Record.{Bytes, Entry, mark, block, lastOf, loss, wanted}
+use Rattle.delivery.specs.Numbers.{mostAhead, mostBehind, wrapped, next}
+use Rattle.delivery.specs.Course.{Course, distance, wanted, loss}
+use Rattle.delivery.specs.Record.{Bytes, Entry, mark, block, lastOf}
 use Rattle.delivery.specs.Sending.{Sender, range}
 use Rattle.delivery.specs.Claim.{newestOf, NearFrom, above, entry}
 use Rattle.delivery.specs.Core.{Receiver, expects, blocksGiven, addsAt, afterAt, adds, after, recordFrom, sent, InOrder, Delivered}

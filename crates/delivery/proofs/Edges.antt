@@ -4,7 +4,8 @@ use mathlib.Core.List.{List, [], _∷_, _++_, map}
 use mathlib.Core.Path.{_≡_, refl, ap, _∙_, sym}
 use native.Mathlib.Omega.{arith}
 use lib.ListN.{length, length-append}
-use Rattle.delivery.specs.Numbers.{mostAhead, mostBehind, wrapped, next, distance, Course}
+use Rattle.delivery.specs.Numbers.{mostAhead, mostBehind, wrapped, next}
+use Rattle.delivery.specs.Course.{Course, distance}
 use Rattle.delivery.specs.Record.{Entry, block}
 use Rattle.delivery.specs.Sending.{Sender}
 use Rattle.delivery.specs.Claim.{Near, newestOnArrival, entry, expected}

@@ -5,7 +5,8 @@ use mathlib.Core.Path.{_≡_, refl, ap, ap₂, _∙_}
 use native.Mathlib.Omega.{arith}
 use lib.ListN.{length, drop}
 use lib.Seq.{drop-length}
-use Rattle.delivery.specs.Numbers.{wrapped, next, distance, courseOf}
+use Rattle.delivery.specs.Numbers.{wrapped, next}
+use Rattle.delivery.specs.Course.{courseOf, distance}
 use Rattle.delivery.specs.Record.{Bytes, Entry, block, lastOf, entries}
 use Rattle.delivery.specs.Sending.{Sender, range}
 use Rattle.delivery.specs.Run.{oldestOf, Rules, senderOf}

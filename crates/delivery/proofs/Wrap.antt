@@ -3,7 +3,8 @@ use Prim.Native.Nat.{ℕ, suc, _+_, _-_, _≤_, _<_}
 use mathlib.Core.Path.{_≡_, ap, _∙_}
 use native.Mathlib.Omega.{arith}
 use borrow.Author.Tests.{lt-ltb, le-ltb}
-use Rattle.delivery.specs.Numbers.{circle, half, mostAhead, mostBehind, wrapped, next, distance, forward, late, courseOf}
+use Rattle.delivery.specs.Numbers.{circle, mostAhead, mostBehind, wrapped, next}
+use Rattle.delivery.specs.Course.{courseOf, late, forward, half, distance}
 
 pub course-forward : (d : ℕ) → d < half → courseOf d ≡ forward
 course-forward d h = cc (lt-ltb d half h)

@@ -4,8 +4,9 @@ use Prim.Native.Nat.{ℕ, suc, _+_, _-_, _≤_, _<_}
 use mathlib.Core.Path.{_≡_}
 use mathlib.Core.List.{List, [], _∷_, _++_, map}
 use lib.ListN.{length}
-use Rattle.delivery.specs.Numbers.{wrapped, next, distance, Course, forward, late, courseOf}
-use Rattle.delivery.specs.Record.{Bytes, Entry, lastOf, loss, wanted, entries}
+use Rattle.delivery.specs.Numbers.{wrapped, next}
+use Rattle.delivery.specs.Course.{courseOf, late, forward, Course, distance, wanted, loss}
+use Rattle.delivery.specs.Record.{Bytes, Entry, lastOf, entries}
 use Rattle.delivery.specs.Sending.{Sender, range}
 use Rattle.delivery.specs.Run.{oldestAge}
 use Rattle.delivery.specs.Claim.{Near, expected}

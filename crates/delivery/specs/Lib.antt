@@ -3,4 +3,5 @@ pub mod Record
 pub mod Sending
 pub mod Claim
 pub mod Run
+pub mod Course
 pub mod Core

@@ -1,5 +1,5 @@
--- The record's entries, and how many of them a forward packet adds (01, "The receiver's step").
-use Prim.Native.Nat.{ℕ, _-_, min}
+-- The record's entries (01, "The receiver's step").
+use Prim.Native.Nat.{ℕ, _-_}
 use mathlib.Core.List.{List, _++_, map}
 use lib.ListN.{length, drop, replicate}
 
@@ -15,14 +15,6 @@ pub data Entry : Type 0 where
 -- the last n of a list
 abbrev pub lastOf : {A : Type 0} → ℕ → List A → List A
 lastOf n xs = drop (length xs - n) xs
-
--- "loss is d minus r, or 0 if r is larger", at distance d with r older blocks
-abbrev pub loss : ℕ → ℕ → ℕ
-loss d r = d - r
-
--- how many older blocks are given: "the last min(d, r)"
-abbrev pub wanted : ℕ → ℕ → ℕ
-wanted d r = min d r
 
 -- so many marks, then the blocks
 abbrev pub entries : ℕ → List Bytes → List Entry

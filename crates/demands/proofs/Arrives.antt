@@ -7,17 +7,17 @@ use Rattle.base.specs.Every.{Every}
 use Rattle.packet_spec.specs.Limits.{level}
 use Rattle.packet_spec.specs.Reading.{Content, Read, holds}
 use Rattle.packet_spec.specs.Encoding.{Admits}
-use Rattle.delivery.specs.Numbers.{Course, forward, late, courseOf, distance}
+use Rattle.delivery.specs.Course.{courseOf, late, forward, Course, distance}
 use Rattle.delivery.specs.Record.{Entry, block}
 use Rattle.delivery.specs.Run.{Rules, senderOf}
 use Rattle.delivery.specs.Core as core
 use Rattle.delivery.specs.Core.{sent}
-use Rattle.receiver_spec.specs.Opening.{Receiver, freshReceiver}
-use Rattle.receiver_spec.specs.Step.{sourceExpected, readBy, firstStep, stepBy, stepRead, stepOf}
+use Rattle.receiver_spec.specs.State.{freshReceiver, Receiver, readBy, sourceExpected}
+use Rattle.receiver_spec.specs.Step.{firstStep, stepBy, stepRead, stepOf}
 use Rattle.receiver_spec.specs.Record.{entriesOf}
 use Rattle.sender_spec.specs.State.{Settings, Block, Sender, fresh}
 use Rattle.sender_spec.specs.Settings.{settingsNumber}
-use Rattle.demands.specs.Line.{ours}
+use Rattle.demands.specs.Ours.{ours}
 use Rattle.demands.specs.Sending.{Call, Written, primaryOf, writes, after, written}
 use Rattle.demands.specs.Demand2.{ReadBack}
 use Rattle.delivery.proofs.NoLoss.{before, adds-own, after-own}

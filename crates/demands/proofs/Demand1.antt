@@ -10,18 +10,21 @@ use Rattle.base.specs.Checks.{numberBy}
 use Rattle.packet_spec.specs.Limits.{level}
 use Rattle.packet_spec.specs.Header.{typesBad}
 use Rattle.packet_spec.specs.Reading.{Content, Read, holds, refused, reading}
-use Rattle.delivery.specs.Numbers.{Course, forward, late, courseOf, distance}
+use Rattle.delivery.specs.Course.{courseOf, late, forward, Course, distance}
 use Rattle.receiver_spec.specs.Opening as receiver
-use Rattle.receiver_spec.specs.Opening.{Receiver, Opening, openingRefused, freshReceiver, zeroReceiver}
-use Rattle.receiver_spec.specs.Step.{refuses, sourceExpected, stepRead, firstStep, stepBy, stepOf}
+use Rattle.receiver_spec.specs.Opening.{openingRefused}
+use Rattle.receiver_spec.specs.Answers.{Opening, refuses}
+use Rattle.receiver_spec.specs.State.{zeroReceiver, freshReceiver, openingChecks, Receiver, sourceExpected}
+use Rattle.receiver_spec.specs.Step.{stepRead, firstStep, stepBy, stepOf}
 use Rattle.sender_spec.specs.State.{Settings, Sender, fresh, zeroSender}
 use Rattle.sender_spec.specs.Answers as answers
 use Rattle.sender_spec.specs.Answers.{Numbered, ClockResult}
 use Rattle.sender_spec.specs.Settings.{settingsChecks, settingsNumber}
-use Rattle.sender_spec.specs.Opening as sender
-use Rattle.sender_spec.specs.Offering.{offerChecks, offerOf, senderWith, offerRefused}
-use Rattle.sender_spec.specs.Clocking.{clockChecks, senderAt, clockOf, clockRefused}
-use Rattle.demands.specs.Line.{ours}
+use Rattle.sender_spec.specs.Calls as sender
+use Rattle.sender_spec.specs.Offering.{offerChecks, senderWith}
+use Rattle.sender_spec.specs.Calls.{offerOf, offerRefused, clockOf, senderAt, clockRefused}
+use Rattle.sender_spec.specs.Clocking.{clockChecks}
+use Rattle.demands.specs.Ours.{ours}
 use Rattle.demands.specs.Demand1.{OnlyClock, Demand1}
 use Rattle.base.proofs.InOrder.{checked-of, refused-by}
 use Rattle.sender_spec.proofs.Calls as calls
@@ -34,8 +37,8 @@ module _ (t140 red : ℕ) where
   abbrev by : Bool → Opening
   by b = cond b (openingRefused 3) (record { number = 0; receiver = freshReceiver t140 red })
 
-  receiver-number : receiver.openingOf t140 red .number ≡ numberBy (receiver.openingChecks t140 red)
-  receiver-number = checked-of (λ (o : Opening). o .number) openingRefused (receiver.openingChecks t140 red) _
+  receiver-number : receiver.openingOf t140 red .number ≡ numberBy (openingChecks t140 red)
+  receiver-number = checked-of (λ (o : Opening). o .number) openingRefused (openingChecks t140 red) _
 
   pub receiver-opened : receiver.openingOf t140 red .number ≡ 0 → receiver.openingOf t140 red .receiver ≡ freshReceiver t140 red
   receiver-opened = go (typesBad t140 red)

@@ -14,17 +14,18 @@ use Rattle.packet_spec.specs.Header.{Expected}
 use Rattle.packet_spec.specs.Redundancy.{joined}
 use Rattle.packet_spec.specs.Reading.{Content, reading, holds}
 use Rattle.packet_spec.specs.Encoding.{Admits}
-use Rattle.receiver_spec.specs.Opening.{Receiver}
-use Rattle.receiver_spec.specs.Step.{sourceExpected, readBy, stepRead, stepOf}
-use Rattle.receiver_spec.specs.Record.{isAccepted}
+use Rattle.receiver_spec.specs.State.{Receiver, readBy, sourceExpected}
+use Rattle.receiver_spec.specs.Step.{stepRead, stepOf}
+use Rattle.receiver_spec.specs.Answers.{isAccepted}
 use Rattle.sender_spec.specs.State.{Settings, Sender, fresh}
 use Rattle.sender_spec.specs.Answers as answers
 use Rattle.sender_spec.specs.Answers.{Numbered, ClockResult}
 use Rattle.sender_spec.specs.Settings.{settingsNumber}
-use Rattle.sender_spec.specs.Offering.{offerOf, senderWith}
+use Rattle.sender_spec.specs.Offering.{senderWith}
+use Rattle.sender_spec.specs.Calls.{offerOf, clockOf}
 use Rattle.sender_spec.specs.Packets.{due, taken, left, contentOf, packetBytes, afterPacket}
-use Rattle.sender_spec.specs.Clocking.{clockChecks, clockOf}
-use Rattle.demands.specs.Line.{ours}
+use Rattle.sender_spec.specs.Clocking.{clockChecks}
+use Rattle.demands.specs.Ours.{ours}
 use Rattle.demands.specs.Sending.{Call, offer, clock, Written, primaryOf, writtenBy, acceptedText, writes, offers, after, written, typed, finally}
 use Rattle.demands.specs.Demand2.{ReadBack, Demand2}
 use Rattle.text_spec.proofs.WellFormed.{characters-are-letters, letters-are-characters}

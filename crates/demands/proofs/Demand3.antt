@@ -6,12 +6,13 @@ use mathlib.Core.Bool.{false}
 use Rattle.packet_spec.specs.Header.{typesBad}
 use Rattle.delivery.specs.Claim.{Near, expected}
 use Rattle.delivery.specs.Run.{senderOf}
-use Rattle.receiver_spec.specs.Opening.{Receiver, freshReceiver, openingOf}
+use Rattle.receiver_spec.specs.Opening.{openingOf}
+use Rattle.receiver_spec.specs.State.{freshReceiver, Receiver}
 use Rattle.receiver_spec.specs.Step.{stepOf}
 use Rattle.receiver_spec.specs.Record.{recordOf, acceptedOf}
 use Rattle.sender_spec.specs.State.{Settings, Sender, fresh}
-use Rattle.sender_spec.specs.Opening as sender
-use Rattle.demands.specs.Line.{ours}
+use Rattle.sender_spec.specs.Calls as sender
+use Rattle.demands.specs.Ours.{ours}
 use Rattle.demands.specs.Rules.{KeepsRules}
 use Rattle.demands.specs.Sending.{Call, primaryOf, written, finally, sentBy, leftBy}
 use Rattle.demands.specs.Demand3.{rulesOf, packetAt, SpacedAfter, Demand3}

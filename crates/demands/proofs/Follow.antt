@@ -14,11 +14,11 @@ use Rattle.delivery.specs.Sending.{range}
 use Rattle.delivery.specs.Run.{runLength, oldestOf, Rules}
 use Rattle.sender_spec.specs.State.{Block, Sender}
 use Rattle.sender_spec.specs.Answers.{Numbered, ClockResult}
-use Rattle.sender_spec.specs.Offering.{offerOf, senderWith}
+use Rattle.sender_spec.specs.Offering.{senderWith}
+use Rattle.sender_spec.specs.Calls.{offerOf, clockOf}
 use Rattle.sender_spec.specs.Packets.{due, packetBytes, recentRun, carried, taken, contentOf, repeated, afterPacket}
 use Rattle.sender_spec.specs.Settings.{settingsNumber}
-use Rattle.sender_spec.specs.Clocking.{clockOf}
-use Rattle.demands.specs.Line.{ours}
+use Rattle.demands.specs.Ours.{ours}
 use Rattle.demands.specs.Rules.{IsPacket}
 use Rattle.demands.specs.Sending.{Call, offer, clock, Written, writtenBy, writes, after, written, finally}
 use Rattle.delivery.proofs.Runs.{run-within}

@@ -13,17 +13,19 @@ use Rattle.packet_spec.specs.Reading.{Read, holds, refused, reading}
 use Rattle.delivery.specs.Claim.{Near, expected}
 use Rattle.delivery.specs.Run.{Rules, senderOf}
 use Rattle.receiver_spec.specs.Opening as receiver
-use Rattle.receiver_spec.specs.Opening.{Receiver}
-use Rattle.receiver_spec.specs.Step.{Given, Answered, refuses, isLate, gives, Step, stepOf}
+use Rattle.receiver_spec.specs.State.{Receiver}
+use Rattle.receiver_spec.specs.Step.{stepOf}
+use Rattle.receiver_spec.specs.Answers.{Step, gives, isLate, refuses, Answered, Given}
 use Rattle.receiver_spec.specs.Record.{recordOf, acceptedOf}
 use Rattle.sender_spec.specs.State.{Settings, Block, Sender}
 use Rattle.sender_spec.specs.Answers as answers
 use Rattle.sender_spec.specs.Answers.{Numbered, ClockResult}
 use Rattle.sender_spec.specs.Settings.{settingsNumber}
-use Rattle.sender_spec.specs.Opening as sender
-use Rattle.sender_spec.specs.Offering.{senderWith, offerOf}
-use Rattle.sender_spec.specs.Clocking.{clockQuiet, clockOf}
-use Rattle.demands.specs.Line.{Line, ours}
+use Rattle.sender_spec.specs.Calls as sender
+use Rattle.sender_spec.specs.Offering.{senderWith}
+use Rattle.sender_spec.specs.Calls.{offerOf, clockOf, clockQuiet}
+use Rattle.demands.specs.Line.{Line}
+use Rattle.demands.specs.Ours.{ours}
 use Rattle.demands.specs.Rules.{KeepsRules}
 use Rattle.demands.specs.Sending.{Call, offer, clock, Written, sentBy, leftBy}
 use Rattle.demands.specs.Demand1.{Demand1}

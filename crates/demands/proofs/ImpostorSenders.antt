@@ -13,10 +13,11 @@ use Rattle.sender_spec.specs.State.{Settings, Block, Sender}
 use Rattle.sender_spec.specs.Answers as answers
 use Rattle.sender_spec.specs.Answers.{Numbered, Answered, ClockResult}
 use Rattle.sender_spec.specs.Settings.{settingsNumber}
-use Rattle.sender_spec.specs.Opening as sender
-use Rattle.sender_spec.specs.Offering.{senderWith, offerOf}
-use Rattle.sender_spec.specs.Clocking.{clockQuiet, clockOf}
-use Rattle.demands.specs.Line.{Line, ours}
+use Rattle.sender_spec.specs.Calls as sender
+use Rattle.sender_spec.specs.Offering.{senderWith}
+use Rattle.sender_spec.specs.Calls.{offerOf, clockOf, clockQuiet}
+use Rattle.demands.specs.Line.{Line}
+use Rattle.demands.specs.Ours.{ours}
 use Rattle.demands.specs.Sending.{Call, offer, clock}
 use Rattle.demands.specs.Demand2.{Demand2}
 use Rattle.demands.specs.Demand3.{Demand3}

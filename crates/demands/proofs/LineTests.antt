@@ -4,9 +4,7 @@ use Rattle.packet_spec.specs.Redundancy.{headers}
 use Rattle.packet_spec.specs.Reading.{reading}
 use Rattle.receiver_spec.specs.Step.{stepOf}
 use Rattle.sender_spec.specs.Settings.{settingsNumber}
-use Rattle.sender_spec.specs.Opening.{openingOf}
-use Rattle.sender_spec.specs.Offering.{offerOf}
-use Rattle.sender_spec.specs.Clocking.{clockOf}
+use Rattle.sender_spec.specs.Calls.{openingOf, offerOf, clockOf}
 use Rattle.demands.specs.LineTests.{table, LineTests}
 
 pub line-tests : LineTests

@@ -15,7 +15,7 @@ use Rattle.delivery.specs.Numbers.{wrapped}
 use Rattle.delivery.specs.Run.{Rules}
 use Rattle.sender_spec.specs.State.{Block, Settings, Progress, Sender, fresh}
 use Rattle.sender_spec.specs.Settings.{settingsNumber}
-use Rattle.demands.specs.Line.{ours}
+use Rattle.demands.specs.Ours.{ours}
 use Rattle.demands.specs.Rules.{IsPacket, KeepsRules}
 use Rattle.demands.specs.Sending.{Call, Written, primaryOf, writes, after, written, finally}
 use Rattle.demands.specs.Demand2.{ReadBack}

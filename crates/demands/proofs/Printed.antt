@@ -6,11 +6,11 @@ use mathlib.Core.List.{List, _++_, map}
 use lib.ListN.{length, length-map}
 use Rattle.packet_spec.specs.Redundancy.{joined}
 use Rattle.sender_spec.specs.State.{Settings}
-use Rattle.sender_spec.specs.Opening.{openingOf}
+use Rattle.sender_spec.specs.Calls.{openingOf}
 use Rattle.journal_spec.specs.Contents.{wholeOf, journalOf}
 use Rattle.journal_spec.specs.Lines.{countsLine}
 use Rattle.journal_spec.specs.Transcript.{transcript}
-use Rattle.demands.specs.Line.{ours}
+use Rattle.demands.specs.Ours.{ours}
 use Rattle.demands.specs.Sending.{Call, primaryOf, sentBy, typedBy, leftBy}
 use Rattle.journal_spec.proofs.NoLoss.{prints-each}
 use Rattle.demands.proofs.Demand2.{demand-2}

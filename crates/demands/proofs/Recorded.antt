@@ -7,7 +7,8 @@ use Rattle.delivery.specs.Core as core
 use Rattle.delivery.specs.Core.{sent}
 use Rattle.delivery.specs.Claim.{Near, expected}
 use Rattle.delivery.specs.Run.{Rules, senderOf}
-use Rattle.receiver_spec.specs.Opening.{Receiver, openingOf, freshReceiver}
+use Rattle.receiver_spec.specs.Opening.{openingOf}
+use Rattle.receiver_spec.specs.State.{freshReceiver, Receiver}
 use Rattle.receiver_spec.specs.Step.{stepOf}
 use Rattle.receiver_spec.specs.Record.{recordOf, acceptedOf}
 use Rattle.demands.specs.Rules.{IsPacket, KeepsRules}

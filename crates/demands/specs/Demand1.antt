@@ -10,8 +10,8 @@ use Rattle.base.specs.Checks.{numberBy}
 use Rattle.packet_spec.specs.Limits.{level}
 use Rattle.packet_spec.specs.Header.{Expected}
 use Rattle.packet_spec.specs.Reading.{refused, reading}
-use Rattle.receiver_spec.specs.Opening.{Receiver, openingChecks, freshReceiver, zeroReceiver}
-use Rattle.receiver_spec.specs.Step.{refuses, sourceExpected}
+use Rattle.receiver_spec.specs.State.{openingChecks, zeroReceiver, freshReceiver, Receiver, sourceExpected}
+use Rattle.receiver_spec.specs.Answers.{refuses}
 use Rattle.sender_spec.specs.State.{Settings, Sender, fresh, zeroSender}
 use Rattle.sender_spec.specs.Answers as answers
 use Rattle.sender_spec.specs.Settings.{settingsChecks}

@@ -15,9 +15,8 @@ use Rattle.packet_spec.specs.Header.{Expected}
 use Rattle.packet_spec.specs.Redundancy.{joined}
 use Rattle.packet_spec.specs.Reading.{Content, holds, reading, blocks}
 use Rattle.packet_spec.specs.Encoding.{Admits}
-use Rattle.receiver_spec.specs.Opening.{Receiver}
-use Rattle.receiver_spec.specs.Step.{sourceExpected}
-use Rattle.receiver_spec.specs.Record.{isAccepted}
+use Rattle.receiver_spec.specs.State.{Receiver, sourceExpected}
+use Rattle.receiver_spec.specs.Answers.{isAccepted}
 use Rattle.sender_spec.specs.State.{Settings, Sender}
 use Rattle.sender_spec.specs.Answers as answers
 use Rattle.sender_spec.specs.Offering.{senderWith}

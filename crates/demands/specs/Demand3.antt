@@ -8,7 +8,7 @@ use Rattle.packet_spec.specs.Redundancy.{joined}
 use Rattle.delivery.specs.Record.{block}
 use Rattle.delivery.specs.Claim.{Near, expected}
 use Rattle.delivery.specs.Run.{Rules, senderOf}
-use Rattle.receiver_spec.specs.Opening.{Receiver}
+use Rattle.receiver_spec.specs.State.{Receiver}
 use Rattle.receiver_spec.specs.Record.{blocksGiven, recordOf, acceptedOf}
 use Rattle.sender_spec.specs.State.{Settings, Sender}
 use Rattle.demands.specs.Line.{Line}

@@ -1,4 +1,5 @@
 pub mod Line
+pub mod Ours
 pub mod Sending
 pub mod Rules
 pub mod Demand1

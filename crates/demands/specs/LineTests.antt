@@ -11,14 +11,13 @@ use Rattle.packet_spec.specs.Header.{Any}
 use Rattle.packet_spec.specs.Redundancy.{Block}
 use Rattle.packet_spec.specs.Reading.{Read, holds, refused, reading}
 use Rattle.receiver_spec.specs.Opening as receiver
-use Rattle.receiver_spec.specs.Opening.{Receiver}
-use Rattle.receiver_spec.specs.Step.{Answered, refuses, isLate, gives, readBy, stepOf, textGiven}
+use Rattle.receiver_spec.specs.State.{Receiver, readBy}
+use Rattle.receiver_spec.specs.Step.{stepOf, textGiven}
+use Rattle.receiver_spec.specs.Answers.{gives, isLate, refuses, Answered}
 use Rattle.sender_spec.specs.State as state
 use Rattle.sender_spec.specs.State.{Settings, Sender}
 use Rattle.sender_spec.specs.Answers as answers
-use Rattle.sender_spec.specs.Opening.{openingOf}
-use Rattle.sender_spec.specs.Offering.{offerOf}
-use Rattle.sender_spec.specs.Clocking.{clockOf}
+use Rattle.sender_spec.specs.Calls.{openingOf, offerOf, clockOf}
 
 pub data Test : Type 0 where
   T1 T2 T3 T4 T5 T6 T7 T8 T9 T10 T11 T12 : Test

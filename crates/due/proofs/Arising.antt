@@ -17,7 +17,8 @@ use Rattle.packet.specs.declared.Refusal.{Refusal}
 use Rattle.receiver.specs.declared.Answer.{Answer}
 use Rattle.receiver.specs.declared.Answer.the-variants.{Refused, Late, Forward}
 use Rattle.receiver.specs.View.{answered}
-use Rattle.receiver_spec.specs.Step.{Answered, refuses, isLate, gives, textGiven}
+use Rattle.receiver_spec.specs.Step.{textGiven}
+use Rattle.receiver_spec.specs.Answers.{gives, isLate, refuses, Answered}
 use Rattle.receiver_spec.specs.Record.{lossOf}
 use Rattle.receiver_spec.proofs.Within.{Within}
 use Rattle.journal_spec.specs.Contents.{longestPacket}

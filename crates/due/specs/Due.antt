@@ -4,7 +4,7 @@ use mathlib.Core.Bool.{Bool, _&&_}
 use mathlib.Core.List.{List}
 use lib.Dec.{leb, eqb}
 use Rattle.base.specs.Arrays.{part}
-use Rattle.receiver_spec.specs.Step.{Answered, refuses, isLate, gives}
+use Rattle.receiver_spec.specs.Answers.{gives, isLate, refuses, Answered}
 use Rattle.journal_spec.specs.Contents.{longestPacket}
 use Rattle.printing.specs.Fitting.{marksFitting, textFitting}
 use Rattle.due.specs.declared.Due.{Due}

@@ -22,7 +22,8 @@ use Rattle.reading.proofs.Sound.{small, packet-inside}
 use Rattle.receiver.specs.declared.Receiver.{Receiver}
 use Rattle.receiver.specs.View.{receiverOf}
 use Rattle.receiver_spec.specs.Opening as Openings
-use Rattle.receiver_spec.specs.Step.{Answered, stepOf, textGiven}
+use Rattle.receiver_spec.specs.Step.{stepOf, textGiven}
+use Rattle.receiver_spec.specs.Answers.{Answered}
 use Rattle.receiver_spec.specs.Record.{lossOf}
 use Rattle.receiver_spec.proofs.Within.{Within, given-lies}
 use Rattle.counts.specs.declared.Counts.{Counts}

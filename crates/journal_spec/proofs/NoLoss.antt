@@ -7,8 +7,10 @@ use native.Mathlib.Omega.{arith}
 use lib.ListN.{length}
 use Rattle.packet_spec.specs.Redundancy.{joined}
 use Rattle.delivery.specs.Record.{block, entries}
-use Rattle.receiver_spec.specs.Opening.{Receiver, openingOf}
-use Rattle.receiver_spec.specs.Step.{Answered, refuses, isLate, gives, stepOf}
+use Rattle.receiver_spec.specs.Opening.{openingOf}
+use Rattle.receiver_spec.specs.State.{Receiver}
+use Rattle.receiver_spec.specs.Step.{stepOf}
+use Rattle.receiver_spec.specs.Answers.{gives, isLate, refuses, Answered}
 use Rattle.receiver_spec.specs.Record.{blocksGiven, entriesOf}
 use Rattle.journal_spec.specs.Contents.{packetsThenEnd, wholeOf, journalOf}
 use Rattle.journal_spec.specs.Lines.{countsLine, brokenLine}

@@ -3,7 +3,7 @@ use Prim.Native.Nat.{ℕ, zero, suc}
 use mathlib.Core.Path.{_≡_, _∙_, refl, ap, sym}
 use mathlib.Core.List.{List, [], _∷_, _++_, map, append-assoc}
 use lib.ListN.{replicate}
-use Rattle.receiver_spec.specs.Opening.{Receiver}
+use Rattle.receiver_spec.specs.State.{Receiver}
 use Rattle.packet_spec.specs.Redundancy.{joined}
 use Rattle.delivery.specs.Record.{Entry, mark, block, entries}
 use Rattle.receiver_spec.specs.Step.{stepOf}

@@ -3,8 +3,10 @@
 use Prim.Native.Nat.{ℕ, _+_}
 use mathlib.Core.List.{List, [], _∷_, _++_}
 use mathlib.Core.Bool.{Bool, true, false, cond}
-use Rattle.receiver_spec.specs.Opening.{Receiver, openingOf, zeroReceiver}
-use Rattle.receiver_spec.specs.Step.{Answered, refuses, isLate, gives, stepOf, textGiven}
+use Rattle.receiver_spec.specs.Opening.{openingOf}
+use Rattle.receiver_spec.specs.State.{zeroReceiver, Receiver}
+use Rattle.receiver_spec.specs.Step.{stepOf, textGiven}
+use Rattle.receiver_spec.specs.Answers.{gives, isLate, refuses, Answered}
 use Rattle.receiver_spec.specs.Record.{lossOf}
 use Rattle.receiver_spec.specs.Marks.{marks}
 use Rattle.journal_spec.specs.Contents.{Contents, opens, packet, ends, breaks, journalOf}

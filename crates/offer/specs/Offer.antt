@@ -10,7 +10,7 @@ use Rattle.packet.specs.Refusal.{outcomeNumber}
 use Rattle.base.specs.Arrays.{over}
 use Rattle.sender_spec.specs.Limits.{roomSize}
 use Rattle.sender_spec.specs.State as State
-use Rattle.sender_spec.specs.Offering.{offerOf}
+use Rattle.sender_spec.specs.Calls.{offerOf}
 use Rattle.slots.specs.Slots.{textsSize, roomOf, waitingIn}
 use Rattle.settings.specs.declared.Settings.{Settings}
 use Rattle.settings.specs.State.{settingsOf}

@@ -8,10 +8,8 @@ use lib.Dec.{ltb, eqb}
 use lib.ListN.{length, getD, drop, length-append}
 use lib.Seq.{drop-drop}
 use borrow.Author.Tests.{ltb-false, not-false}
-use Rattle.packet_spec.specs.Header.{Expected}
-use Rattle.packet_spec.specs.Redundancy.{Head}
-use Rattle.packet_spec.specs.Header.{payloadType, payload}
-use Rattle.packet_spec.specs.Redundancy.{Heads, heads, bad, headOf, header, headers, total, areText}
+use Rattle.packet_spec.specs.Header.{Expected, payloadType, payload}
+use Rattle.packet_spec.specs.Redundancy.{Head, Heads, heads, bad, headOf, header, headers, total, areText}
 use Rattle.base.specs.Checks.{Check, checked}
 use Rattle.packet_spec.specs.Reading.{Content, Read, holds, refused, headerChecks, headsOf, content, blockChecks, blocksRead, reading}
 use Rattle.base.proofs.Tests.{by-test}

@@ -8,8 +8,7 @@ use lib.Dec.{ltb, eqb}
 use lib.ListN.{length, getD, take, drop, length-take, drop-of-length-le}
 use lib.Seq.{slice, slice-cons, length-slice}
 use borrow.Author.Tests.{lt-ltb, le-ltb, eq-eqb, ne-eqb}
-use Rattle.packet_spec.specs.Redundancy.{Head}
-use Rattle.packet_spec.specs.Redundancy.{Heads, heads, bad, headOf, header, headers}
+use Rattle.packet_spec.specs.Redundancy.{Head, Heads, heads, bad, headOf, header, headers}
 use Rattle.base.proofs.Slices.{drop-slice}
 
 -- what an older block's header leads to

@@ -6,11 +6,9 @@ use mathlib.Core.Bool.{true, false}
 use lib.Dec.{ltb}
 use lib.ListN.{length, drop}
 use borrow.Author.Tests.{lt-ltb, le-ltb, eq-eqb, ne-eqb}
-use Rattle.packet_spec.specs.Header.{Expected}
-use Rattle.packet_spec.specs.Redundancy.{Head}
+use Rattle.packet_spec.specs.Header.{Expected, version, headerEnd, paddingBad, typesBad, otherType, otherSource}
+use Rattle.packet_spec.specs.Redundancy.{Head, total, areText}
 use Rattle.packet_spec.specs.Limits.{shortest, longest}
-use Rattle.packet_spec.specs.Header.{version, headerEnd, paddingBad, typesBad, otherType, otherSource}
-use Rattle.packet_spec.specs.Redundancy.{total, areText}
 use Rattle.base.specs.Checks.{checked}
 use Rattle.packet_spec.specs.Reading.{headerChecks, layoutChecks, blockChecks}
 

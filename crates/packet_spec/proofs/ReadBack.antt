@@ -8,17 +8,19 @@ use lib.Dec.{ltb, leb, eqb}
 use lib.ListN.{length, drop, length-append}
 use lib.Seq.{take-all, take-append-seam, drop-append-seam, drop-drop}
 use borrow.Author.Tests.{le-ltb, lt-leb, le-leb, eq-eqb, ne-eqb, ltb-false, eqb-false}
-use Rattle.packet_spec.specs.Header.{Expected}
-use Rattle.packet_spec.specs.Header.{Any, Only}
-use Rattle.packet_spec.specs.Redundancy.{Head}
+use Rattle.packet_spec.specs.Header.{Expected, Any, Only, payloadType, payload, typesBad, otherType, otherSource, sourceOf}
+use Rattle.packet_spec.specs.Redundancy.{Head, heads, Block, headOf, headers, total, olderOf, primaryOf, blocksOf, joined, allText, areText}
 use Rattle.packet_spec.specs.Limits.{longest}
-use Rattle.packet_spec.specs.Header.{payloadType, payload, typesBad, otherType, otherSource, sourceOf}
-use Rattle.packet_spec.specs.Redundancy.{heads, Block, headOf, headers, total, olderOf, primaryOf, blocksOf, joined, allText, areText}
 use Rattle.packet_spec.specs.Reading.{Content, holds, refused, content, headsBy, headsOf, blocksRead, reading}
-use Rattle.packet_spec.specs.Encoding.{markerBit, headerBytes, headBytes, headsBytes, plainBytes, redundantBytes, LengthsFit, Admits}
+use Rattle.packet_spec.specs.Encoding.{markerBit, headerBytes, headBytes, headsBytes, plainBytes, redundantBytes, Admits}
+use Rattle.base.specs.Every.{Every}
 use Rattle.base.proofs.Tests.{and-false, or-left, or-right}
 use Rattle.packet_spec.proofs.Heads.{last, one-more}
 use Rattle.packet_spec.proofs.Order.{from, past-3, past-12, past-14, past-16, past-21}
+
+-- a length that fits its 10 bits
+abbrev pub LengthsFit : List Block → Type 0
+LengthsFit bs = Every (λ (b : Block). length (b .bytes) ≤ 1023) bs
 
 -- the headers that blocks are given
 abbrev headsFor : List Block → List Head

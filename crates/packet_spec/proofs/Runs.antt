@@ -5,8 +5,7 @@ use mathlib.Core.List.{List, [], _∷_, _++_, append-assoc, append-nil}
 use native.Mathlib.Omega.{arith}
 use lib.ListN.{length, take, drop, length-append, take-append-drop}
 use lib.Seq.{slice, drop-drop, take-append-seam, drop-append-seam, take-take}
-use Rattle.packet_spec.specs.Redundancy.{Head}
-use Rattle.packet_spec.specs.Redundancy.{total, olderOf, primaryOf, blocksOf, joined}
+use Rattle.packet_spec.specs.Redundancy.{Head, total, olderOf, primaryOf, blocksOf, joined}
 use Rattle.base.proofs.Slices.{take-slice, drop-slice}
 
 pub joined-append : (xs ys : List (List ℕ)) → joined (xs ++ ys) ≡ joined xs ++ joined ys

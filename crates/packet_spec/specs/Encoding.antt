@@ -45,11 +45,6 @@ plainBytes t140 c = headerBytes t140 c ++ c .primary
 abbrev pub redundantBytes : ℕ → ℕ → Content → List ℕ
 redundantBytes t140 red c = headerBytes red c ++ (headsBytes t140 (c .older) ++ joined (blocksOf (c .older) (c .primary)))
 
--- a length that fits its 10 bits
-abbrev pub LengthsFit : List Block → Type 0
-LengthsFit [] = Unit {0}
-LengthsFit (b ∷ bs) = (length (b .bytes) ≤ 1023) × LengthsFit bs
-
 -- a source that is among those expected
 abbrev pub Admits : Expected → ℕ → Type 0
 Admits Any s = Unit {0}

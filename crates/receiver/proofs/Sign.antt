@@ -10,7 +10,8 @@ use mir.Syntax.{w16}
 use mir.Val.{toZ, SFits}
 use mir.Facts.{toZ-pos}
 use borrow.Author.Tests.{lt-ltb, le-ltb, ltb-true}
-use Rattle.delivery.specs.Numbers.{circle, half, forward, late, courseOf}
+use Rattle.delivery.specs.Numbers.{circle}
+use Rattle.delivery.specs.Course.{courseOf, late, forward, half}
 use Rattle.receiver_spec.specs.Distance.{signed}
 
 below : (m : ℕ) → negsuc 0 -ℤ pos m ≡ negsuc m

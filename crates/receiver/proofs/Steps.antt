@@ -16,11 +16,12 @@ use Rattle.packet_spec.specs.Redundancy.{joined}
 use Rattle.packet_spec.specs.Reading.{Content, holds, reading, blocks, startsAt}
 use Rattle.packet.specs.Refusal.{number}
 use Rattle.packet.specs.Places.{numbered, placed, startOf, readOf}
-use Rattle.delivery.specs.Numbers.{Course, forward, late, courseOf, distance}
-use Rattle.delivery.specs.Record.{lastOf, loss, wanted}
-use Rattle.receiver_spec.specs.Opening.{Receiver}
+use Rattle.delivery.specs.Course.{courseOf, late, forward, Course, distance, wanted, loss}
+use Rattle.delivery.specs.Record.{lastOf}
+use Rattle.receiver_spec.specs.State.{Receiver, sourceExpected}
 use Rattle.receiver_spec.specs.Distance.{signed}
-use Rattle.receiver_spec.specs.Step.{Step, refuses, gives, movedTo, sourceExpected, givenFrom, stepRead, firstStep, stepBy, stepOf}
+use Rattle.receiver_spec.specs.Step.{movedTo, givenFrom, stepRead, firstStep, stepBy, stepOf}
+use Rattle.receiver_spec.specs.Answers.{Step, gives, refuses}
 use Rattle.receiver.specs.Accepted.{followed, laterBy, laterAccepted, acceptedStep}
 use Rattle.packet_spec.proofs.Numbers.{reading-positive}
 use Rattle.packet_spec.proofs.Runs.{reach, joined-split}

@@ -4,11 +4,11 @@ use mathlib.Core.Bool.{true, cond}
 use lib.IntN.{ℤ, pos}
 use Rattle.packet.specs.declared.Packet.{Packet}
 use Rattle.packet.specs.Places.{startOf}
-use Rattle.delivery.specs.Numbers.{next, distance, Course, forward, late, courseOf}
-use Rattle.delivery.specs.Record.{loss, wanted}
+use Rattle.delivery.specs.Numbers.{next}
+use Rattle.delivery.specs.Course.{courseOf, late, forward, Course, distance, wanted, loss}
 use Rattle.receiver_spec.specs.Distance.{signed}
-use Rattle.receiver_spec.specs.Opening.{Receiver}
-use Rattle.receiver_spec.specs.Step.{Step, isLate, gives}
+use Rattle.receiver_spec.specs.State.{Receiver}
+use Rattle.receiver_spec.specs.Answers.{Step, gives, isLate}
 
 -- the last w older blocks and the primary are given
 abbrev pub followed : Receiver → Packet → ℕ → ℤ → ℕ → Step

@@ -9,8 +9,9 @@ use Rattle.receiver.specs.declared.Answer.the-variants.{Refused, Late, F
 use Rattle.receiver.specs.declared.Advanced.{Advanced}
 use Rattle.receiver.specs.declared.Stepped.{Stepped}
 use Rattle.packet.specs.Refusal.{number, outcomeNumber}
-use Rattle.receiver_spec.specs.Opening.{Receiver, Opening}
-use Rattle.receiver_spec.specs.Step.{Answered, refuses, isLate, gives, Step, stepOf, textGiven}
+use Rattle.receiver_spec.specs.Answers.{Opening, Step, gives, isLate, refuses, Answered}
+use Rattle.receiver_spec.specs.State.{Receiver}
+use Rattle.receiver_spec.specs.Step.{stepOf, textGiven}
 
 abbrev pub receiverOf : code.Receiver → Receiver
 receiverOf r = record { t140 = r .t140; red = r .red; hasSource = r .«has_source»; source = r .source; expected = r .expected }

@@ -2,7 +2,7 @@
 ghost use mathlib.Core.Path.{_≡_};
 ghost use Prim.Native.Nat.{_≤_};
 ghost use Rattle.packet_spec.specs.Limits.{level};
-ghost use Rattle.delivery.specs.Record as Entries;
+ghost use Rattle.delivery.specs.Course as Course;
 ghost use Rattle.delivery.specs.Numbers as Numbers;
 ghost use Rattle.receiver_spec.specs.Distance as Distance;
 ghost use Rattle.receiver.specs.Accepted.{followed, laterAccepted, acceptedStep};
@@ -14,7 +14,7 @@ use packet::Packet;
 
 // How far ahead of the expected number a packet is, wrapped.
 fn ahead(sequence: u16, expected: u16) -> u16
-    ensures { λ r. ⌜ r ≡ Numbers.distance sequence expected ⌝ }
+    ensures { λ r. ⌜ r ≡ Course.distance sequence expected ⌝ }
 {
     std::num::wrapping_sub_u16(sequence, expected)
 }
@@ -37,7 +37,7 @@ fn next(sequence: u16) -> u16
 }
 
 fn loss_of(d: u16, older: usize) -> u16
-    ensures { λ r. ⌜ r ≡ Entries.loss d older ⌝ }
+    ensures { λ r. ⌜ r ≡ Course.loss d older ⌝ }
 {
     let missing = d as usize;
     if missing <= older {
@@ -47,7 +47,7 @@ fn loss_of(d: u16, older: usize) -> u16
 }
 
 fn wanted_of(d: u16, older: usize) -> usize
-    ensures { λ r. ⌜ r ≡ Entries.wanted d older ⌝ }
+    ensures { λ r. ⌜ r ≡ Course.wanted d older ⌝ }
 {
     let missing = d as usize;
     if missing <= older {
@@ -88,7 +88,7 @@ fn follow(receiver: Receiver, packet: Packet, loss: u16, distance: i16, wanted: 
 // A packet behind the first.
 fn accept_later(receiver: Receiver, packet: Packet) -> Advanced
     requires { ⌜ packet .count ≤ level ⌝ }
-    ensures { λ r. ⌜ advanced r ≡ laterAccepted (receiverOf receiver) packet (Numbers.distance (packet .sequence) (receiver .expected)) ⌝ }
+    ensures { λ r. ⌜ advanced r ≡ laterAccepted (receiverOf receiver) packet (Course.distance (packet .sequence) (receiver .expected)) ⌝ }
 {
     let d = ahead(packet.sequence, receiver.expected);
     let distance = signed(d);

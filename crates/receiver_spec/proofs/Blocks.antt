@@ -7,11 +7,10 @@ use native.Mathlib.Omega.{arith}
 use lib.ListN.{length, drop, length-append}
 use lib.Seq.{drop-append-le}
 use Rattle.packet_spec.specs.Header.{Any, Only}
-use Rattle.receiver_spec.specs.Opening.{Receiver}
+use Rattle.receiver_spec.specs.State.{Receiver, readBy}
 use Rattle.packet_spec.specs.Limits.{level}
 use Rattle.packet_spec.specs.Reading.{Content, holds, reading}
 use Rattle.delivery.specs.Record.{lastOf}
-use Rattle.receiver_spec.specs.Step.{readBy}
 use Rattle.packet_spec.proofs.Lies.{of-one-source}
 
 -- the last blocks and the primary

@@ -6,17 +6,18 @@ use mathlib.Core.Bool.{Bool, true, false, cond}
 use native.Mathlib.Omega.{arith}
 use lib.ListN.{length, length-map}
 use Rattle.packet_spec.specs.Header.{Any}
-use Rattle.receiver_spec.specs.Opening.{Receiver}
+use Rattle.receiver_spec.specs.State.{Receiver, readBy}
 use Rattle.packet_spec.specs.Limits.{level}
 use Rattle.packet_spec.specs.Redundancy.{blocksOf}
 use Rattle.packet_spec.specs.Reading.{Content, Read, holds, refused, reading}
-use Rattle.delivery.specs.Numbers.{Course, forward, late, courseOf, distance}
+use Rattle.delivery.specs.Course.{courseOf, late, forward, Course, distance, wanted, loss}
 use Rattle.delivery.specs.Core as core
-use Rattle.delivery.specs.Record.{Entry, entries, lastOf, loss, wanted}
+use Rattle.delivery.specs.Record.{Entry, entries, lastOf}
 use Rattle.delivery.specs.Sending.{Sender}
 use Rattle.delivery.specs.Core.{sent}
-use Rattle.receiver_spec.specs.Step.{readBy, stepRead, firstStep, stepBy, stepOf}
-use Rattle.receiver_spec.specs.Record.{blocksIn, blocksGiven, entriesOf, recordOf, isAccepted, acceptedOf}
+use Rattle.receiver_spec.specs.Step.{stepRead, firstStep, stepBy, stepOf}
+use Rattle.receiver_spec.specs.Record.{blocksIn, blocksGiven, entriesOf, recordOf, acceptedOf}
+use Rattle.receiver_spec.specs.Answers.{isAccepted}
 use Rattle.receiver_spec.proofs.Blocks.{last-snoc, read-by-any}
 
 -- a packet as the core has it

@@ -6,9 +6,10 @@ use mathlib.Core.Bool.{Bool, true, cond}
 use lib.ListN.{length}
 use native.Mathlib.Omega.{arith}
 use Rattle.delivery.specs.Record.{Entry, block}
-use Rattle.receiver_spec.specs.Opening.{Receiver}
-use Rattle.receiver_spec.specs.Step.{Answered, refuses, isLate, gives, stepOf}
-use Rattle.receiver_spec.specs.Record.{entriesOf, isAccepted, recordOf, acceptedOf}
+use Rattle.receiver_spec.specs.State.{Receiver}
+use Rattle.receiver_spec.specs.Step.{stepOf}
+use Rattle.receiver_spec.specs.Answers.{gives, isLate, refuses, Answered, isAccepted}
+use Rattle.receiver_spec.specs.Record.{entriesOf, recordOf, acceptedOf}
 
 -- packet by packet, and block by block
 pub data OneEach : Receiver → List (List ℕ) → List (List ℕ) → Type 0 where

@@ -6,14 +6,15 @@ use mathlib.Core.Bool.{Bool, true, false, cond}
 use native.Mathlib.Omega.{arith}
 use lib.IntN.{ℤ, pos}
 use lib.ListN.{length}
-use Rattle.receiver_spec.specs.Opening.{Receiver}
+use Rattle.receiver_spec.specs.State.{Receiver, readBy, sourceExpected}
 use Rattle.packet_spec.specs.Limits.{level}
 use Rattle.packet_spec.specs.Header.{payloadEnd}
 use Rattle.packet_spec.specs.Redundancy.{joined}
 use Rattle.packet_spec.specs.Reading.{Content, Read, holds, refused, blocks}
-use Rattle.delivery.specs.Numbers.{Course, forward, late, courseOf, distance}
-use Rattle.delivery.specs.Record.{lastOf, loss, wanted}
-use Rattle.receiver_spec.specs.Step.{gives, givenFrom, sourceExpected, readBy, stepRead, firstStep, stepBy, stepOf, textGiven}
+use Rattle.delivery.specs.Course.{courseOf, late, forward, Course, distance, wanted, loss}
+use Rattle.delivery.specs.Record.{lastOf}
+use Rattle.receiver_spec.specs.Step.{givenFrom, stepRead, firstStep, stepBy, stepOf, textGiven}
+use Rattle.receiver_spec.specs.Answers.{gives}
 use Rattle.receiver_spec.specs.Distance.{signed}
 use Rattle.receiver_spec.specs.Record.{blocksIn, blocksGiven}
 use Rattle.base.proofs.PartOf.{part-slice}

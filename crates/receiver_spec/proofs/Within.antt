@@ -9,11 +9,11 @@ use lib.ListN.{length}
 use Rattle.packet_spec.specs.Limits.{level}
 use Rattle.packet_spec.specs.Reading.{Content, Read, holds, refused}
 use Rattle.packet_spec.proofs.Lies.{lies}
-use Rattle.delivery.specs.Numbers.{Course, forward, late, courseOf, distance}
-use Rattle.delivery.specs.Record.{loss, wanted}
-use Rattle.receiver_spec.specs.Opening.{Receiver}
+use Rattle.delivery.specs.Course.{courseOf, late, forward, Course, distance, wanted, loss}
+use Rattle.receiver_spec.specs.State.{Receiver, readBy, sourceExpected}
 use Rattle.receiver_spec.specs.Distance.{signed}
-use Rattle.receiver_spec.specs.Step.{Answered, refuses, isLate, gives, givenFrom, sourceExpected, readBy, stepRead, firstStep, stepBy, stepOf}
+use Rattle.receiver_spec.specs.Step.{givenFrom, stepRead, firstStep, stepBy, stepOf}
+use Rattle.receiver_spec.specs.Answers.{gives, isLate, refuses, Answered}
 
 abbrev pub Within : List ℕ → Answered → Type 0
 Within p (refuses n) = Unit {0}

@@ -1,5 +1,7 @@
-pub mod Distance
+pub mod State
+pub mod Answers
 pub mod Opening
+pub mod Distance
 pub mod Step
 pub mod Record
 pub mod Marks

@@ -1,11 +1,11 @@
 -- The record: over the accepted packets in order, as many loss marks as the answer's loss, and then the blocks given.
 use Prim.Native.Nat.{ℕ}
-use mathlib.Core.Bool.{Bool, true, false, cond}
+use mathlib.Core.Bool.{cond}
 use mathlib.Core.List.{List, [], _∷_, _++_}
 use Rattle.packet_spec.specs.Reading.{Read, holds, refused, blocks}
 use Rattle.delivery.specs.Record.{Entry, entries, lastOf}
-use Rattle.receiver_spec.specs.Opening.{Receiver}
-use Rattle.receiver_spec.specs.Step.{Answered, refuses, isLate, gives, Step, readBy}
+use Rattle.receiver_spec.specs.State.{Receiver, readBy}
+use Rattle.receiver_spec.specs.Answers.{Answered, refuses, isLate, gives, Step, isAccepted}
 
 -- the blocks of a packet, oldest first and the primary last
 abbrev pub blocksIn : Read → List (List ℕ)
@@ -25,12 +25,6 @@ lossOf (gives g) = g .loss
 
 abbrev pub entriesOf : Receiver → List ℕ → Answered → List Entry
 entriesOf r p a = entries (lossOf a) (blocksGiven r p a)
-
--- accepted: answered without a refusal number, late or not
-abbrev pub isAccepted : Answered → Bool
-isAccepted (refuses n) = false
-isAccepted (isLate z) = true
-isAccepted (gives g) = true
 
 -- the record of a list of packets, and those of them that are accepted, by a receiver's step: each call gets the receiver that
 -- the last call returned

@@ -5,42 +5,15 @@ use mathlib.Core.List.{List, []}
 use lib.IntN.{ℤ, pos}
 use lib.ListN.{length}
 use Rattle.base.specs.Arrays.{part}
-use Rattle.packet_spec.specs.Limits.{level}
-use Rattle.packet_spec.specs.Header.{Expected, Any, Only, payloadEnd}
+use Rattle.packet_spec.specs.Header.{payloadEnd}
 use Rattle.packet_spec.specs.Redundancy.{joined}
-use Rattle.packet_spec.specs.Reading.{Content, Read, holds, refused, reading, blocks}
-use Rattle.delivery.specs.Numbers.{next, distance, Course, forward, late, courseOf}
-use Rattle.delivery.specs.Record.{lastOf, loss, wanted}
+use Rattle.packet_spec.specs.Reading.{Content, Read, holds, refused, blocks}
+use Rattle.delivery.specs.Numbers.{next}
+use Rattle.delivery.specs.Record.{lastOf}
+use Rattle.delivery.specs.Course.{distance, Course, forward, late, courseOf, loss, wanted}
 use Rattle.receiver_spec.specs.Distance.{signed}
-use Rattle.receiver_spec.specs.Opening.{Receiver}
-
--- what a forward packet gives: the number of marks, the signed distance, how many older blocks it has, how many of its
--- last blocks are given, and where these start and end
-pub record Given : Type 0 where
-  pub loss : ℕ
-  pub distance : ℤ
-  pub older : ℕ
-  pub given : ℕ
-  pub from : ℕ
-  pub to : ℕ
-
--- an answer by 01's numbers
-pub data Answered : Type 0 where
-  refuses : ℕ → Answered
-  isLate : ℤ → Answered
-  gives : Given → Answered
-
-pub record Step : Type 0 where
-  pub receiver : Receiver
-  pub answer : Answered
-
--- any source before the first accepted packet, then only its source
-abbrev pub sourceExpected : Receiver → Expected
-sourceExpected r = cond (r .hasSource) (Only (r .source)) Any
-
--- a packet as the step reads it: 3 on the types held, 10 to 15, 16, 17 to 21
-abbrev pub readBy : Receiver → List ℕ → Read
-readBy r p = reading level (sourceExpected r) (r .t140) (r .red) p
+use Rattle.receiver_spec.specs.State.{Receiver, readBy}
+use Rattle.receiver_spec.specs.Answers.{Given, Answered, refuses, isLate, gives, Step}
 
 -- an accepted packet fixes the source, and the next number is expected
 abbrev pub movedTo : Receiver → Content → Receiver

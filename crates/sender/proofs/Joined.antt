@@ -19,7 +19,8 @@ use Rattle.sender_spec.specs.Limits.{roomSize}
 use Rattle.sender_spec.specs.State as State
 use Rattle.sender_spec.specs.Settings.{settingsNumber}
 use Rattle.sender_spec.specs.Answers.{Numbered}
-use Rattle.sender_spec.specs.Offering.{offerChecks, senderWith, offerRefused, offerOf}
+use Rattle.sender_spec.specs.Offering.{offerChecks, senderWith}
+use Rattle.sender_spec.specs.Calls.{offerOf, offerRefused}
 use Rattle.sender_spec.proofs.Calls.{offer-joined}
 use Rattle.slots.specs.Slots.{slots, textsSize, slotOf}
 use Rattle.slots.proofs.Slots.{waiting-length, waiting-some}

@@ -6,7 +6,7 @@ use mathlib.Core.Bool.{not, _||_, _&&_}
 use lib.Dec.{ltb}
 use Rattle.base.specs.Flags.{isSet}
 use Rattle.sender.specs.declared.Sender.{Sender}
-use Rattle.sender_spec.specs.Clocking.{clockOf}
+use Rattle.sender_spec.specs.Calls.{clockOf}
 use Rattle.writer.specs.declared.Draft.{Draft}
 use Rattle.writer.specs.declared.Answer.{Answer}
 use Rattle.writer.specs.declared.Answer.the-variants.{Refused, Quiet, Sent}

@@ -7,7 +7,7 @@ use Rattle.sender.specs.declared.Sender.{Sender}
 use Rattle.packet.specs.declared.Outcome.{Outcome}
 use Rattle.packet.specs.declared.Outcome.the-variants.{Accepted, Refused}
 use Rattle.packet.specs.Refusal.{outcomeNumber}
-use Rattle.sender_spec.specs.Offering.{offerOf}
+use Rattle.sender_spec.specs.Calls.{offerOf}
 use Rattle.slots.specs.Held.{joinedOf}
 use Rattle.offer.specs.Offer.{textsBy}
 use Rattle.sender.specs.State.{stateOf}

@@ -10,7 +10,7 @@ use Rattle.packet.specs.declared.Outcome.{Outcome}
 use Rattle.packet.specs.declared.Outcome.the-variants.{Accepted, Refused}
 use Rattle.packet.specs.Refusal.{outcomeNumber}
 use Rattle.packet_spec.specs.Limits.{level}
-use Rattle.sender_spec.specs.Opening.{openingOf}
+use Rattle.sender_spec.specs.Calls.{openingOf}
 use Rattle.settings.specs.State.{settingsOf}
 use Rattle.sender.specs.State.{stateOf}
 

@@ -12,7 +12,7 @@ use mir.Val.{toZ, SFits}
 use mir.Facts.{toZ-pos}
 use Rattle.sender_spec.specs.State as State
 use Rattle.sender_spec.specs.Answers.{Answered, refused, quiet, sent, ClockResult}
-use Rattle.sender_spec.specs.Clocking.{clockOf}
+use Rattle.sender_spec.specs.Calls.{clockOf}
 use Rattle.sender_spec.proofs.Shapes as Shapes
 use Rattle.sender_spec.proofs.Shapes.{Clock, clock-shape}
 use Rattle.sender.specs.declared.Sender.{Sender}

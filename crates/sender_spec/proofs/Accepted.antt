@@ -9,7 +9,7 @@ use Rattle.base.specs.Checks.{checked}
 use Rattle.sender_spec.specs.State.{Settings, Sender, fresh}
 use Rattle.sender_spec.specs.Settings.{settingsNumber}
 use Rattle.sender_spec.specs.Answers.{Numbered}
-use Rattle.sender_spec.specs.Opening.{openingRefused, openingOf}
+use Rattle.sender_spec.specs.Calls.{openingOf, openingRefused}
 use Rattle.sender_spec.specs.Clocking.{clockChecks}
 
 pub open-passed : (x : Settings) → openingOf x .number ≡ 0 → (settingsNumber x ≡ 0) × (openingOf x .sender ≡ fresh x)

@@ -13,10 +13,9 @@ use Rattle.sender_spec.specs.Limits.{roomSize}
 use Rattle.sender_spec.specs.Settings.{bufferingBad, settingsNumber}
 use Rattle.sender_spec.specs.State.{Settings, Sender, fresh}
 use Rattle.sender_spec.specs.Answers.{ClockResult}
-use Rattle.sender_spec.specs.Opening.{openingRefused, openingOf}
-use Rattle.sender_spec.specs.Offering.{offerRefused, senderWith, offerOf}
+use Rattle.sender_spec.specs.Calls.{openingOf, openingRefused, offerOf, offerRefused, clockOf, clockSent, clockQuiet, clockRefused}
+use Rattle.sender_spec.specs.Offering.{senderWith}
 use Rattle.sender_spec.specs.Packets.{due, packetBytes}
-use Rattle.sender_spec.specs.Clocking.{clockRefused, clockQuiet, clockSent, clockOf}
 
 -- settings
 module _ (s : Settings) where

@@ -8,9 +8,7 @@ use Rattle.packet_spec.specs.Reading.{reading}
 use Rattle.sender_spec.specs.Settings.{settingsNumber}
 use Rattle.sender_spec.specs.State.{Settings, Sender, fresh, zeroSettings, zeroSender}
 use Rattle.sender_spec.specs.Answers.{Numbered}
-use Rattle.sender_spec.specs.Opening.{openingOf}
-use Rattle.sender_spec.specs.Offering.{offerOf}
-use Rattle.sender_spec.specs.Clocking.{clockOf}
+use Rattle.sender_spec.specs.Calls.{openingOf, offerOf, clockOf}
 use Rattle.sender_spec.proofs.Tables.{typed, offer, clockIn, clock, accepted, quiet, refused, sent, _answers_, after, Case, from, CasesHold, opened, A, B, letters, notText, M, no-M, ago, holding, before-end}
 
 -- Openings: settings, and what is answered.

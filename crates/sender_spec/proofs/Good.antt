@@ -10,9 +10,8 @@ use Rattle.text_spec.specs.Utf8.{isText}
 use Rattle.sender_spec.specs.Limits.{roomSize}
 use Rattle.sender_spec.specs.State.{Settings, Block, Sender, fresh}
 use Rattle.sender_spec.specs.Answers.{Numbered, ClockResult}
-use Rattle.sender_spec.specs.Offering.{offerOf}
+use Rattle.sender_spec.specs.Calls.{offerOf, clockOf}
 use Rattle.sender_spec.specs.Packets.{taken, left, afterPacket}
-use Rattle.sender_spec.specs.Clocking.{clockOf}
 use Rattle.text_spec.proofs.TextJoin.{text-join}
 use Rattle.base.specs.Every.{Every}
 use Rattle.base.proofs.Every.{every-take}

@@ -13,9 +13,9 @@ use Rattle.sender_spec.specs.Settings.{settingsNumber}
 use Rattle.sender_spec.specs.State.{Sender}
 use Rattle.sender_spec.specs.Answers
 use Rattle.sender_spec.specs.Answers.{Numbered, ClockResult}
-use Rattle.sender_spec.specs.Offering.{offerRefused, senderWith, offerOf}
+use Rattle.sender_spec.specs.Offering.{senderWith}
+use Rattle.sender_spec.specs.Calls.{offerOf, offerRefused, clockOf, clockSent, clockQuiet, senderAt, clockRefused}
 use Rattle.sender_spec.specs.Packets.{due, packetBytes, afterPacket}
-use Rattle.sender_spec.specs.Clocking.{senderAt, clockRefused, clockQuiet, clockSent, clockOf}
 
 pub data Offer (s : Sender) (t : ℕ) (x : List ℕ) : Numbered → Type 0 where
   refused : (n : ℕ) → 1 ≤ n → Offer s t x (offerRefused s n)

@@ -7,9 +7,10 @@ use lib.ListN.{length, length-append}
 use Rattle.packet_spec.specs.Limits.{longest}
 use Rattle.packet_spec.specs.Redundancy.{Block, blocksOf, joined}
 use Rattle.packet_spec.specs.Reading.{Content}
-use Rattle.packet_spec.specs.Encoding.{headsBytes, plainBytes, redundantBytes, LengthsFit}
+use Rattle.packet_spec.specs.Encoding.{headsBytes, plainBytes, redundantBytes}
 use Rattle.sender_spec.specs.Limits.{roomSize}
 use Rattle.base.specs.Every.{Every}
+use Rattle.packet_spec.proofs.ReadBack.{LengthsFit}
 
 -- a block as long as the sender writes
 abbrev pub Short : Block → Type 0

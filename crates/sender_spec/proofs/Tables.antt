@@ -12,9 +12,7 @@ use Rattle.packet_spec.specs.Reading.{Read, holds, reading}
 use Rattle.sender_spec.specs.State.{Settings, Sender}
 use Rattle.sender_spec.specs.Answers
 use Rattle.sender_spec.specs.Answers.{Answered, ClockResult}
-use Rattle.sender_spec.specs.Opening.{openingOf}
-use Rattle.sender_spec.specs.Offering.{offerOf}
-use Rattle.sender_spec.specs.Clocking.{clockOf}
+use Rattle.sender_spec.specs.Calls.{openingOf, offerOf, clockOf}
 
 -- level, buffering time, T140 and RED
 abbrev pub typed : ℕ → ℕ → ℕ → ℕ → Settings

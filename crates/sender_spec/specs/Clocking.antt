@@ -1,47 +1,11 @@
--- The sender's clock call: "5, then whether anything is due, then 8" (01, "Refusal numbers" and "The sender").
+-- The checks of the sender's clock call, ahead of "whether anything is due, then 8" (01, "Refusal numbers").
 use Prim.Native.Nat.{ℕ}
 use mathlib.Core.List.{List, [], _∷_}
-use mathlib.Core.Bool.{cond}
 use lib.Dec.{ltb}
-use lib.ListN.{length}
 use Rattle.sender_spec.specs.State.{Sender}
-use Rattle.base.specs.Arrays.{over}
-use Rattle.base.specs.Checks.{Check, _gives_, checked}
+use Rattle.base.specs.Checks.{Check, _gives_}
 use Rattle.sender_spec.specs.Settings.{settingsCheck}
-use Rattle.sender_spec.specs.Answers.{refused, quiet, sent, ClockResult}
-use Rattle.sender_spec.specs.Packets.{due, packetBytes, afterPacket}
 
 -- "clock below the latest accepted clock"
 abbrev pub clockChecks : Sender → ℕ → List Check
 clockChecks s t = settingsCheck (s .settings) ∷ ltb t (s .clock) gives 5 ∷ []
-
--- "lent packet space shorter than the packet due"
-abbrev pub spaceChecks : Sender → ℕ → List ℕ → List Check
-spaceChecks s t p = ltb (length p) (length (packetBytes s t)) gives 8 ∷ []
-
--- "Any other refusal gives its number, the state as it came in, and lent bytes untouched"
-abbrev pub clockRefused : Sender → List ℕ → ℕ → ClockResult
-clockRefused s p n = record { answer = refused n; sender = s; lent = p }
-
-abbrev pub senderAt : Sender → ℕ → Sender
-senderAt s t = record {
-  settings = s .settings;
-  clock = t;
-  waiting = s .waiting;
-  since = s .since;
-  kept = s .kept;
-  progress = s .progress;
-}
-
--- "the call answers "quiet", touches no byte and only keeps t"
-abbrev pub clockQuiet : Sender → ℕ → List ℕ → ClockResult
-clockQuiet s t p = record { answer = quiet; sender = senderAt s t; lent = p }
-
--- the packet is written to the front of the lent space
-abbrev pub clockSent : Sender → ℕ → List ℕ → ClockResult
-clockSent s t p = record { answer = sent (length (packetBytes s t)); sender = afterPacket s t; lent = over (packetBytes s t) p }
-
-unfoldable pub clockOf : Sender → ℕ → List ℕ → ClockResult
-clockOf s t p =
-    checked (clockRefused s p) (clockChecks s t)
-    (cond (due s t) (checked (clockRefused s p) (spaceChecks s t p) (clockSent s t p)) (clockQuiet s t p))

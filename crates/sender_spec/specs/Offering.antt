@@ -5,11 +5,10 @@ use mathlib.Core.Bool.{cond, not}
 use lib.Dec.{ltb, eqb}
 use lib.ListN.{length}
 use Rattle.text_spec.specs.Utf8.{isText}
-use Rattle.base.specs.Checks.{Check, _gives_, checked}
+use Rattle.base.specs.Checks.{Check, _gives_}
 use Rattle.sender_spec.specs.Limits.{roomSize}
 use Rattle.sender_spec.specs.Settings.{settingsCheck}
 use Rattle.sender_spec.specs.State.{Sender, hasText}
-use Rattle.sender_spec.specs.Answers.{Numbered}
 
 -- "Offering text: 5, 7, 6, 4": clock below the latest accepted clock; offered text is empty, is not UTF-8, does not fit in
 -- the waiting room
@@ -32,10 +31,3 @@ senderWith s t x = record {
   kept = s .kept;
   progress = s .progress;
 }
-
--- "Any other refusal gives its number, the state as it came in"
-abbrev pub offerRefused : Sender → ℕ → Numbered
-offerRefused s n = record { number = n; sender = s }
-
-unfoldable pub offerOf : Sender → ℕ → List ℕ → Numbered
-offerOf s t x = checked (offerRefused s) (offerChecks s t x) (record { number = 0; sender = senderWith s t x })

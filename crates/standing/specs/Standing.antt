@@ -7,7 +7,8 @@ use lib.ListN.{length, take, drop}
 use Rattle.parts.specs.declared.Part.{Part}
 use Rattle.parts.specs.declared.Part.the-variants.{Kind, Types, Red, Length, Low, Piece, Time, Opened, Packet, Ended, Broken}
 use Rattle.counts.specs.declared.Counts.{Counts}
-use Rattle.receiver_spec.specs.Opening.{Receiver, openingOf, zeroReceiver}
+use Rattle.receiver_spec.specs.Opening.{openingOf}
+use Rattle.receiver_spec.specs.State.{zeroReceiver, Receiver}
 use Rattle.receiver_spec.specs.Step.{stepOf, textGiven}
 use Rattle.receiver_spec.specs.Record.{lossOf}
 use Rattle.printing.specs.Fitting.{marksFitting, textFitting, dueFitting}

@@ -4,9 +4,7 @@ use mathlib.Core.Path.{_≡_, refl, ap, sym, subst}
 use mathlib.Core.List.{List, _++_, append-assoc}
 use mathlib.Core.Bool.{true}
 use native.Mathlib.Omega.{arith}
-use Rattle.text_spec.specs.Utf8.{Text}
-use Rattle.text_spec.specs.Utf8.{Characters, Stops}
-use Rattle.text_spec.specs.Utf8.{textOf, wellFormed, isText}
+use Rattle.text_spec.specs.Utf8.{Text, Characters, Stops, textOf, wellFormed, isText}
 use Rattle.text_spec.specs.WellFormed.{Letters, empty, more}
 use Rattle.text_spec.proofs.WellFormed.{characters-are-letters, letters-are-characters}
 

@@ -7,9 +7,7 @@ use native.Mathlib.Nat.{add-zero, zero-add}
 use native.Mathlib.Numerals.{add-one}
 use native.Mathlib.Omega.{arith}
 use lib.ListN.{length, take}
-use Rattle.text_spec.specs.Utf8.{Text}
-use Rattle.text_spec.specs.Utf8.{Characters, Stops}
-use Rattle.text_spec.specs.Utf8.{Range, next, begins, onward, textFrom, textOf}
+use Rattle.text_spec.specs.Utf8.{Text, Characters, Stops, Range, next, begins, onward, textFrom, textOf}
 use Rattle.text_spec.specs.WellFormed.{Matches, end, byte, Letter, Letters, empty, more}
 use Rattle.text_spec.proofs.Walks.{text-on, text-stops}
 use Rattle.text_spec.proofs.Table.{never, begins-row, Step, new, on, stepped, Proper, step-proper, paid}

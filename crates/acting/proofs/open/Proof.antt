@@ -1,5 +1,5 @@
 use mathlib.Core.Path.{refl, ap}
-use Rattle.receiver_spec.specs.Opening.{Opening}
+use Rattle.receiver_spec.specs.Answers.{Opening}
 use borrow.Author.Needs.{needs}
 use Rattle.acting.proofs.open.Statement.{statement}
 use Rattle.acting.proofs.open.Tie as tie

@@ -1,7 +1,7 @@
 use mathlib.Core.Path.{_∙_, ap}
 use borrow.Author.Needs.{needs}
 use denote.Ref.{now}
-use Rattle.receiver_spec.specs.Opening.{Receiver}
+use Rattle.receiver_spec.specs.State.{Receiver}
 use Rattle.receiver_spec.specs.Step.{stepOf}
 use Rattle.boundary.proofs.advance.Statement.{statement}
 use Rattle.boundary.proofs.advance.Tie as tie

@@ -36,7 +36,8 @@ use denote.Triple.Table.{entered, cited}
 use denote.Triple.Walked.{says, Stays, stay-ref, stay-none, walkOf, goes-ref, goes-none, ends-at, walked, walk-meets}
 use denote.Exit.{yes}
 use Rattle.base.proofs.Records.{Data, of-record, of-uint, Known, had, opens-whole, closes-whole, returned, copied, freed}
-use Rattle.receiver_spec.specs.Opening.{Opening, openingOf}
+use Rattle.receiver_spec.specs.Opening.{openingOf}
+use Rattle.receiver_spec.specs.Answers.{Opening}
 use Rattle.receiver.specs.declared.Opened.{Opened}
 use Rattle.receiver.specs.View.{opening}
 use Rattle.receiver.proofs.Opened as P

@@ -41,7 +41,7 @@ use denote.Triple.Table.{entered, cited}
 use denote.Triple.Walked.{says, Stays, stay-ref, stay-none-slice, walkOf, goes-ref, goes-none-slice, ends-at, walked, walk-meets}
 use denote.Exit.{yes}
 use Rattle.base.proofs.Records.{Data, of-record, of-enum, of-uint, of-bool, Known, had, opens-whole, closes-whole, returned, copied, freed, unused, leaves-if}
-use Rattle.receiver_spec.specs.Step as Stepping
+use Rattle.receiver_spec.specs.Answers as Stepping
 use Rattle.receiver_spec.specs.Step.{stepOf}
 use Rattle.receiver.specs.declared.Answer.{Answer}
 use Rattle.receiver.specs.declared.Advanced.{Advanced}

@@ -3,7 +3,7 @@ use borrow.Author.Needs.{needs}
 use denote.Ref.{now}
 use Rattle.packet_spec.specs.Header.{Expected}
 use Rattle.packet.specs.Places.{numbered, readOf}
-use Rattle.receiver_spec.specs.Step.{sourceExpected}
+use Rattle.receiver_spec.specs.State.{sourceExpected}
 use Rattle.receiver.specs.View.{receiverOf}
 use Rattle.receiver.proofs.Steps.{refused-step, few-older, accepted-step}
 use Rattle.receiver.proofs.Receiver.advance.Statement.{statement}

@@ -1,7 +1,7 @@
 use mathlib.Core.Path.{_≡_, _∙_, ap, sym}
 use mathlib.Core.Bool.{true, false}
 use borrow.Author.Needs.{needs}
-use Rattle.receiver_spec.specs.Opening.{Receiver}
+use Rattle.receiver_spec.specs.State.{Receiver}
 use Rattle.packet_spec.specs.Header.{typesBad}
 use Rattle.receiver.proofs.Receiver.open.Statement.{statement}
 use Rattle.receiver.proofs.Receiver.open.Tie as tie

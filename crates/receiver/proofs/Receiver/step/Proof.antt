@@ -42,7 +42,8 @@ use Rattle.receiver.specs.declared.Receiver.{Receiver}
 use Rattle.receiver.specs.declared.Advanced.{Advanced}
 use Rattle.receiver.specs.declared.Answer.{Answer}
 use Rattle.receiver.specs.declared.Stepped.{Stepped}
-use Rattle.receiver_spec.specs.Step.{Step, stepOf, textGiven}
+use Rattle.receiver_spec.specs.Step.{stepOf, textGiven}
+use Rattle.receiver_spec.specs.Answers.{Step}
 use Rattle.receiver.specs.View.{receiverOf, answered, advanced, handed, handedOf}
 use Rattle.receiver.proofs.Advancing.{mT, mN, mL, part-T, part-N, Own, Advance, advance-of, to-advance, goes-advance}
 use Rattle.receiver.proofs.Receiver as T

@@ -40,7 +40,8 @@ use denote.Triple.Walked.{says, Stays, stay-ref, stay-none-slice, walkOf, AllGo,
 use denote.Exit.{yes}
 use Rattle.receiver.specs.declared.Receiver.{Receiver}
 use Rattle.receiver.specs.declared.Advanced.{Advanced}
-use Rattle.receiver_spec.specs.Step.{Step, stepOf}
+use Rattle.receiver_spec.specs.Step.{stepOf}
+use Rattle.receiver_spec.specs.Answers.{Step}
 use Rattle.receiver.specs.View.{receiverOf, advanced}
 use Rattle.receiver.proofs.Advancing.{mT, mN, mL, part-T, part-N, Own, Advance, advance-of, to-advance, goes-advance}
 use Rattle.receiver.proofs.Receiver as T

@@ -6,10 +6,9 @@ use mir.Syntax.{w16}
 use mir.Val.{toZ, ofZ}
 use mir.Facts.{toZ-ofZ}
 use borrow.Author.Needs.{needs}
-use Rattle.delivery.specs.Numbers.{late, forward, courseOf, distance}
-use Rattle.delivery.specs.Record.{loss, wanted}
+use Rattle.delivery.specs.Course.{courseOf, late, forward, distance, wanted, loss}
 use Rattle.receiver_spec.specs.Distance.{signed}
-use Rattle.receiver_spec.specs.Step.{isLate}
+use Rattle.receiver_spec.specs.Answers.{isLate}
 use Rattle.receiver.specs.View.{receiverOf}
 use Rattle.receiver.specs.Accepted.{followed}
 use Rattle.receiver.proofs.Sign.{negative-late, other-forward}

@@ -1,0 +1,34 @@
+-- A receiver, the checks of its opening, and how it reads a packet.
+use Prim.Native.Nat.{ℕ}
+use mathlib.Core.List.{List, [], _∷_}
+use mathlib.Core.Bool.{Bool, false, cond}
+use Rattle.base.specs.Checks.{Check, _gives_}
+use Rattle.packet_spec.specs.Limits.{level}
+use Rattle.packet_spec.specs.Header.{Expected, Any, Only, typesBad}
+use Rattle.packet_spec.specs.Reading.{Read, reading}
+
+-- the payload types; the source, once the first packet was accepted; the sequence number that is expected next
+pub record Receiver : Type 0 where
+  pub t140 : ℕ
+  pub red : ℕ
+  pub hasSource : Bool
+  pub source : ℕ
+  pub expected : ℕ
+
+abbrev pub freshReceiver : ℕ → ℕ → Receiver
+freshReceiver t140 red = record { t140 = t140; red = red; hasSource = false; source = 0; expected = 0 }
+
+abbrev pub zeroReceiver : Receiver
+zeroReceiver = freshReceiver 0 0
+
+-- check 3 alone
+abbrev pub openingChecks : ℕ → ℕ → List Check
+openingChecks t140 red = typesBad t140 red gives 3 ∷ []
+
+-- any source before the first accepted packet, then only its source
+abbrev pub sourceExpected : Receiver → Expected
+sourceExpected r = cond (r .hasSource) (Only (r .source)) Any
+
+-- a packet as the step reads it: 3 on the types held, 10 to 15, 16, 17 to 21
+abbrev pub readBy : Receiver → List ℕ → Read
+readBy r p = reading level (sourceExpected r) (r .t140) (r .red) p
