@@ -11,7 +11,7 @@ use Rattle.base.specs.Arrays.{over}
 use Rattle.packet_spec.specs.Limits.{level}
 use Rattle.delivery.specs.Numbers.{wrapped, next}
 use Rattle.delivery.specs.Sending.{range}
-use Rattle.delivery.specs.Run.{runLength, oldestOf, Rules}
+use Rattle.delivery.specs.Run.{run, oldestOf, Rules}
 use Rattle.sender_spec.specs.State.{Block, Sender}
 use Rattle.sender_spec.specs.Answers.{Numbered, ClockResult}
 use Rattle.sender_spec.specs.Offering.{senderWith}
@@ -98,7 +98,7 @@ module _ (R : ℕ) (small : R ≤ level) (first : ℕ) (f : ℕ → Block) (f-ri
     pub kept-is : s .kept ≡ down f n level
 
   -- what it would carry is the run of the log
-  carried-is : (s : Sender) (n : ℕ) → At s n → carried s (f n .at) ≡ down f n (runLength R (λ k. f k .at) n)
+  carried-is : (s : Sender) (n : ℕ) → At s n → carried s (f n .at) ≡ down f n (run (λ k. f k .at) (f n .at) R n)
   carried-is s n a =
       let k : take (s .settings .level) (s .kept) ≡ down f n R =
       ap₂ {C = List Block} (λ r bs. take r bs) (a .level-is) (a .kept-is) ∙ take-down f n R level small in
@@ -116,7 +116,7 @@ module _ (R : ℕ) (small : R ≤ level) (first : ℕ) (f : ℕ → Block) (f-ri
   older-is s n a =
       map-map (λ b. b .bytes) (repeated (f n .at)) (reverse (carried s (f n .at)))
       ∙ ap (λ l. map (λ b. b .text) (reverse l)) (carried-is s n a)
-      ∙ texts-down n (runLength R (λ k. f k .at) n) (run-within (λ k. f k .at) (f n .at) R n)
+      ∙ texts-down n (run (λ k. f k .at) (f n .at) R n) (run-within (λ k. f k .at) (f n .at) R n)
 
   is-packet : (s : Sender) (n t : ℕ) → At s n → f n ≡ record { text = taken s t; at = t } → IsPacket rules n (contentOf s t)
   is-packet s n t a e =

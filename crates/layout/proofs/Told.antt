@@ -11,7 +11,7 @@ use Rattle.layout.specs.declared.Layout.{Layout}
 use Rattle.base.specs.Checks.{checked, numberBy}
 use Rattle.packet_spec.specs.Limits.{shortest}
 use Rattle.packet_spec.specs.Header.{headerEnd, payloadEnd}
-use Rattle.packet_spec.specs.Reading.{layoutChecks}
+use Rattle.packet_spec.specs.Layout.{layoutChecks}
 use Rattle.packet.specs.Refusal.{number, outcomeNumber}
 use Rattle.layout.specs.Seen.{Seen, seen, refusedLayout, passedLayout, layoutOf}
 use Rattle.base.proofs.InOrder.{number-first, refused-by, passed-by, none-applies}

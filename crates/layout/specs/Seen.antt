@@ -4,7 +4,7 @@ use mathlib.Core.List.{List}
 use Rattle.layout.specs.declared.Layout.{Layout}
 use Rattle.base.specs.Checks.{checked}
 use Rattle.packet_spec.specs.Header.{headerEnd, payloadEnd}
-use Rattle.packet_spec.specs.Reading.{layoutChecks}
+use Rattle.packet_spec.specs.Layout.{layoutChecks}
 use Rattle.packet.specs.Refusal.{outcomeNumber}
 
 pub record Seen : Type 0 where

@@ -7,7 +7,7 @@ ghost use lib.ListN.{length, drop};
 ghost use Rattle.base.specs.Checks.{checked};
 ghost use Rattle.packet_spec.specs.Limits.{shortest, longest};
 ghost use Rattle.packet_spec.specs.Header.{headerEnd, paddingBad, payloadEnd};
-ghost use Rattle.packet_spec.specs.Reading.{layoutChecks};
+ghost use Rattle.packet_spec.specs.Layout.{layoutChecks};
 ghost use Rattle.packet.specs.Refusal.{number};
 ghost use Rattle.layout.specs.Seen.{seen, refusedLayout, passedLayout, layoutOf};
 use packet::Outcome;

@@ -2,21 +2,25 @@
 use Prim.Native.Nat.{ℕ, zero, suc, _+_, _-_, _*_, _/_, _%_, _≤_, _<_}
 use mathlib.Core.Path.{_≡_, _∙_, refl, ap, sym}
 use mathlib.Core.List.{List, [], _∷_, _++_, append-assoc, append-nil}
-use mathlib.Core.Bool.{Bool, true, false, not, _||_}
+use mathlib.Core.Bool.{Bool, true, false, cond, not, _||_}
 use native.Mathlib.Omega.{arith}
 use lib.Dec.{ltb, leb, eqb}
 use lib.ListN.{length, drop, length-append}
 use lib.Seq.{take-all, take-append-seam, drop-append-seam, drop-drop}
 use borrow.Author.Tests.{le-ltb, lt-leb, le-leb, eq-eqb, ne-eqb, ltb-false, eqb-false}
 use Rattle.packet_spec.specs.Header.{Expected, Any, Only, payloadType, payload, typesBad, otherType, otherSource, sourceOf}
-use Rattle.packet_spec.specs.Redundancy.{Head, heads, Block, headOf, headers, total, olderOf, primaryOf, blocksOf, joined, allText, areText}
+use Rattle.packet_spec.specs.Redundancy.{Head, Heads, heads, Block, headOf, headers, total, olderOf, primaryOf, blocksOf, joined, allText, areText}
 use Rattle.packet_spec.specs.Limits.{longest}
-use Rattle.packet_spec.specs.Reading.{Content, holds, refused, content, headsBy, headsOf, blocksRead, reading}
+use Rattle.packet_spec.specs.Reading.{Content, holds, refused, content, headsOf, blocksRead, reading}
 use Rattle.packet_spec.specs.Encoding.{markerBit, headerBytes, headBytes, headsBytes, plainBytes, redundantBytes, Admits}
 use Rattle.base.specs.Every.{Every}
 use Rattle.base.proofs.Tests.{and-false, or-left, or-right}
 use Rattle.packet_spec.proofs.Heads.{last, one-more}
 use Rattle.packet_spec.proofs.Order.{from, past-3, past-12, past-14, past-16, past-21}
+
+-- the headers of a payload s
+abbrev headsBy : ℕ → ℕ → List ℕ → List ℕ → Heads
+headsBy n t140 p s = cond (eqb (payloadType p) t140) (heads [] s) (headers t140 n [] s)
 
 -- a length that fits its 10 bits
 abbrev pub LengthsFit : List Block → Type 0

@@ -3,11 +3,11 @@ use Prim.Native.Nat.{ℕ, suc, _-_}
 use mathlib.Core.List.{List, [], _∷_}
 use mathlib.Core.Bool.{Bool, cond, not}
 use lib.Dec.{ltb, eqb}
-use lib.ListN.{length, take, drop}
+use lib.ListN.{length, drop}
 use Rattle.base.specs.Arrays.{part}
 use Rattle.base.specs.Checks.{Check, _gives_, checked}
 use Rattle.packet_spec.specs.Limits.{shortest, longest}
-use Rattle.packet_spec.specs.Header.{version, headerEnd, paddingBad, payloadType, payloadEnd, payload, typesBad, otherType, Expected, Any, otherSource, markerOf, sequenceOf, timestampOf, sourceOf}
+use Rattle.packet_spec.specs.Header.{version, headerEnd, paddingBad, payloadType, payloadEnd, payload, typesBad, otherType, Expected, otherSource, markerOf, sequenceOf, timestampOf, sourceOf}
 use Rattle.packet_spec.specs.Redundancy.{Head, Heads, heads, bad, headers, total, Block, olderOf, primaryOf, blocksOf, joined, areText}
 
 pub record Content : Type 0 where
@@ -34,16 +34,9 @@ headerChecks expected t140 red p =
     ∷ otherSource expected p gives 16
     ∷ []
 
--- 10 to 14, which look at the packet alone: where header, payload and padding lie
-abbrev pub layoutChecks : List ℕ → List Check
-layoutChecks p = take 5 (drop 1 (headerChecks Any 0 0 p))
-
 -- type T140: one primary block and no header; type RED: headers, with 17, 18 and 19 among them
-abbrev pub headsBy : ℕ → ℕ → List ℕ → List ℕ → Heads
-headsBy level t140 p s = cond (eqb (payloadType p) t140) (heads [] s) (headers t140 level [] s)
-
 abbrev pub headsOf : ℕ → ℕ → List ℕ → Heads
-headsOf level t140 p = headsBy level t140 p (payload p)
+headsOf level t140 p = cond (eqb (payloadType p) t140) (heads [] (payload p)) (headers t140 level [] (payload p))
 
 abbrev pub content : List ℕ → List Head → List ℕ → Content
 content p hs s = record {
