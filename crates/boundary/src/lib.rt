@@ -7,7 +7,7 @@ ghost use Rattle.packet.specs.Places.{sourceOf};
 ghost use Rattle.receiver_spec.specs.Step.{stepOf};
 ghost use Rattle.receiver.specs.View.{receiverOf, answered, advanced};
 ghost use Rattle.boundary.specs.Answers.{expectedOf, textAnswer};
-ghost use Rattle.boundary.specs.Receiving.{bit, flag, heldIn, recordOf, wasRefused, wasLate, stepNumber, stepRecord};
+ghost use Rattle.boundary.specs.Receiving.{bit, heldIn, recordOf, wasRefused, wasLate, stepNumber, stepRecord};
 use packet::Expected;
 use packet::Outcome;
 use receiver::Advanced;
@@ -71,12 +71,6 @@ pub struct ReceiverRecord {
     pub expected: u16,
 }
 
-fn is_set(byte: u8) -> bool
-    ensures { λ r. ⌜ r ≡ flag byte ⌝ }
-{
-    byte != 0
-}
-
 fn byte_of(set: bool) -> u8
     ensures { λ r. ⌜ r ≡ bit set ⌝ }
 {
@@ -89,7 +83,7 @@ fn byte_of(set: bool) -> u8
 pub fn receiver_of(lent: ReceiverRecord) -> Receiver
     ensures { λ r. ⌜ receiverOf r ≡ heldIn lent ⌝ }
 {
-    let has_source = is_set(lent.has_source);
+    let has_source = lent.has_source != 0;
     Receiver {
         t140: lent.t140,
         red: lent.red,
