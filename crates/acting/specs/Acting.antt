@@ -15,13 +15,13 @@ use Rattle.printing.specs.Fitting.{fitting}
 use Rattle.counts.specs.declared.Counts.{Counts}
 use Rattle.counts.specs.Counts.{counted, wrapped, lineOf, Counting}
 use Rattle.due.specs.declared.Due.{Due}
-use Rattle.due.specs.Due.{lineDue, dueOf}
+use Rattle.due.specs.Due.{emptyDue, lineDue, dueOf}
 use Rattle.acting.specs.declared.Acted.{Acted}
 
 pub record Opens (k : Counts) (t140 red : ℕ) (a : Acted) : Type 0 where
   pub receiver : receiverOf (a .receiver) ≡ openingOf t140 red .receiver
   pub counts : a .counts ≡ k
-  pub due : a .due ≡ lineDue 0
+  pub due : a .due ≡ emptyDue
 
 -- the packet x
 pub record Steps (r : Receiver) (k : Counts) (x : List ℕ) (a : Acted) : Type 0 where
@@ -43,7 +43,7 @@ pub record Closes (line : List ℕ) (r : Receiver) (k : Counts) (p : List ℕ) (
 pub record Goes (r : Receiver) (k : Counts) (p : List ℕ) (a : Acted) (p' : List ℕ) : Type 0 where
   pub receiver : a .receiver ≡ r
   pub counts : a .counts ≡ k
-  pub due : a .due ≡ lineDue 0
+  pub due : a .due ≡ emptyDue
   pub lent : p' ≡ p
 
 unfoldable pub Acts : Part → ℕ → Receiver → Counts → List ℕ → Acted → List ℕ → Type 0

@@ -23,7 +23,7 @@ fn open(counts: Counts, t140: u8, red: u8) -> Acted
     Acted {
         receiver,
         counts,
-        due: Due::line(0),
+        due: Due::none(),
     }
 }
 
@@ -92,7 +92,7 @@ pub fn act(part: Part, size: usize, receiver: Receiver, counts: Counts, packet: 
         _ => Acted {
             receiver,
             counts,
-            due: Due::line(0),
+            due: Due::none(),
         },
     }
 }

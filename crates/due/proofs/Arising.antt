@@ -23,10 +23,10 @@ use Rattle.receiver_spec.specs.Record.{lossOf}
 use Rattle.receiver_spec.proofs.Within.{Within}
 use Rattle.journal_spec.specs.Contents.{longestPacket}
 use Rattle.due.specs.declared.Due.{Due}
-use Rattle.due.specs.Due.{lineDue, dueOf, noneDue, within, textDue}
+use Rattle.due.specs.Due.{emptyDue, lineDue, dueOf, noneDue, within, textDue}
 use Rattle.due.proofs.Giving.{lies, text-length}
 
-pub none-text : (p : List ℕ) → textDue (lineDue 0) p ≡ []
+pub none-text : (p : List ℕ) → textDue emptyDue p ≡ []
 none-text p = part-mid 0 0 p (omega arith) (omega arith)
 
 -- the answer to a packet of so many bytes, with which p begins
@@ -85,8 +85,8 @@ none-is d p ok long =
 pub forward-due : (a : Answer) (n : ℕ) (z : ℤ) (o g f t : ℕ) → a ≡ Forward n z o g f t → record { marks = n; from = f; to = t } ≡ dueOf (answered a)
 forward-due a n z o g f t e = rw e
 
-pub refused-due : (a : Answer) (n : Refusal) → a ≡ Refused n → lineDue 0 ≡ dueOf (answered a)
+pub refused-due : (a : Answer) (n : Refusal) → a ≡ Refused n → emptyDue ≡ dueOf (answered a)
 refused-due a n e = rw e
 
-pub late-due : (a : Answer) (z : ℤ) → a ≡ Late z → lineDue 0 ≡ dueOf (answered a)
+pub late-due : (a : Answer) (z : ℤ) → a ≡ Late z → emptyDue ≡ dueOf (answered a)
 late-due a z e = rw e

@@ -9,13 +9,17 @@ use Rattle.journal_spec.specs.Contents.{longestPacket}
 use Rattle.printing.specs.Fitting.{marksFitting, textFitting}
 use Rattle.due.specs.declared.Due.{Due}
 
+abbrev pub emptyDue : Due
+emptyDue = record { marks = 0; from = 0; to = 0 }
+
+-- the first n bytes of the packet
 abbrev pub lineDue : ℕ → Due
 lineDue n = record { marks = 0; from = 0; to = n }
 
 -- the blocks lost are marks
 abbrev pub dueOf : Answered → Due
-dueOf (refuses n) = lineDue 0
-dueOf (isLate z) = lineDue 0
+dueOf (refuses n) = emptyDue
+dueOf (isLate z) = emptyDue
 dueOf (gives g) = record { marks = g .loss; from = g .from; to = g .to }
 
 abbrev pub noneDue : Due → Bool

@@ -4,7 +4,7 @@ ghost use lib.ListN.{length};
 ghost use Rattle.base.specs.Arrays.{over};
 ghost use Rattle.receiver.specs.View.{answered};
 ghost use Rattle.printing.specs.Fitting.{dueFitting};
-ghost use Rattle.due.specs.Due.{lineDue, dueOf, noneDue, within, textDue, leftOf};
+ghost use Rattle.due.specs.Due.{emptyDue, lineDue, dueOf, noneDue, within, textDue, leftOf};
 use marks::LossMark;
 use parts::Part;
 use receiver::Answer;
@@ -23,6 +23,17 @@ pub struct Gave {
 }
 
 impl Due {
+    // Nothing is due.
+    pub fn none() -> Due
+        ensures { λ r. ⌜ r ≡ emptyDue ⌝ }
+    {
+        Due {
+            marks: 0,
+            from: 0,
+            to: 0,
+        }
+    }
+
     // A line of so many bytes with which the packet begins.
     pub fn line(len: usize) -> Due
         ensures { λ r. ⌜ r ≡ lineDue len ⌝ }
@@ -51,8 +62,8 @@ impl Due {
                 from,
                 to,
             },
-            Answer::Refused(_) => Due::line(0),
-            Answer::Late { distance: _ } => Due::line(0),
+            Answer::Refused(_) => Due::none(),
+            Answer::Late { distance: _ } => Due::none(),
         }
     }
 

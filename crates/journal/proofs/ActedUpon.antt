@@ -29,7 +29,7 @@ use Rattle.receiver_spec.proofs.Within.{Within, given-lies}
 use Rattle.counts.specs.declared.Counts.{Counts}
 use Rattle.counts.specs.Counts.{counted, lineOf, OneMore}
 use Rattle.due.specs.declared.Due.{Due}
-use Rattle.due.specs.Due.{lineDue, dueOf}
+use Rattle.due.specs.Due.{emptyDue, lineDue, dueOf}
 use Rattle.due.proofs.Arising.{none-text, line-text, line-within, answer-within, answer-text, answer-marks}
 use Rattle.acting.specs.declared.Acted.{Acted}
 use Rattle.acting.specs.Acting.{Opens, Steps, Line, Closes, Acts}
@@ -92,7 +92,7 @@ module _ (s : Transcript) (p : List ℕ) (ok : ready s ≡ true) (long : longest
   opened : (t140 red : ℕ) → s .reader .part ≡ Opened t140 red → Opens (s .counts) t140 red a → p' ≡ p → At (by (outside true Kind)) p' (settled (standingOf s p))
   opened t140 red e o pe =
       let r = outside true Kind in
-      let t : Transcript = acted s r (a .receiver) (s .counts) (lineDue 0) in
+      let t : Transcript = acted s r (a .receiver) (s .counts) emptyDue in
       let same : by r ≡ t = λ i. acted s r (a .receiver) (o .counts i) (o .due i) in (
         ap ready same ∙ holds t record { inside = line-within 0 (omega arith); fit = facts s ok .fit; reader = refl },
         (λ i. standingOf (same i) (pe i))

@@ -18,7 +18,7 @@ use Rattle.receiver.specs.View.{receiverOf}
 use Rattle.counts.specs.Counts.{OneMore}
 use Rattle.counts.proofs.Fits.{fit-behind, one-more}
 use Rattle.due.specs.declared.Due.{Due}
-use Rattle.due.specs.Due.{lineDue, within, textDue}
+use Rattle.due.specs.Due.{emptyDue, within, textDue}
 use Rattle.due.proofs.Arising.{none-text, line-within}
 use Rattle.standing.specs.Standing.{settled, after, hungry, usedOf, takeOf}
 use Rattle.standing.proofs.Unread.{stopped-less, goes-on}
@@ -43,7 +43,7 @@ module _ (s : Transcript) (p x : List ℕ) (ok : ready s ≡ true) (long : longe
   remain : length (take (s .left) x) - used ≡ length (unread (readingOf (s .reader) p) (take (s .left) x))
   remain = sym (length-drop used (take (s .left) x)) ∙ ap length (all .leaves)
 
-  module _ (h : hungry (standingOf s p) ≡ true) (d : Due) (de : d ≡ lineDue 0) where
+  module _ (h : hungry (standingOf s p) ≡ true) (d : Due) (de : d ≡ emptyDue) where
     used-is : used ≡ usedOf (standingOf s p) x
     unfolding usedOf
     used-is = let l = remain in let i = all .within in rw h (omega arith)

@@ -13,7 +13,7 @@ use Rattle.parts.specs.Bytes.{going}
 use Rattle.reading.specs.Reading.{readingOf, sound}
 use Rattle.reading.specs.Reading as Reading
 use Rattle.counts.specs.Counts.{noCounts, countsFit}
-use Rattle.due.specs.Due.{lineDue, noneDue, within, textDue}
+use Rattle.due.specs.Due.{emptyDue, noneDue, within, textDue}
 use Rattle.standing.specs.Standing.{Standing, takeOf, usedOf, givenOf, giveOf, stopOf}
 use Rattle.standing.specs.Filling.{fillOf}
 use Rattle.journal.specs.declared.Transcript.{Transcript}
@@ -24,7 +24,7 @@ noReceiver = record { t140 = 0; red = 0; «has_source» = false; source = 0; exp
 
 -- before the first byte
 abbrev pub first : Transcript
-first = record { reader = Reading.start; receiver = noReceiver; counts = noCounts; left = limit; due = lineDue 0 }
+first = record { reader = Reading.start; receiver = noReceiver; counts = noCounts; left = limit; due = emptyDue }
 
 -- the pieces of a packet and the text due lie in the lent buffer
 abbrev pub standingOf : Transcript → List ℕ → Standing

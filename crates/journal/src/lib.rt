@@ -53,7 +53,7 @@ impl Transcript {
             },
             counts: Counts::none(),
             left: Transcript::LIMIT,
-            due: Due::line(0),
+            due: Due::none(),
         }
     }
 

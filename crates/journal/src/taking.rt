@@ -28,7 +28,7 @@ pub fn take(s: Transcript, input: &[u8], packet: &mut [u8]) -> Taken
     let mut read = s;
     read.reader = next;
     read.left = s.left - used;
-    read.due = Due::line(0);
+    read.due = Due::none();
     let transcript = settling::settle(read, packet);
     Taken { transcript, used }
 }

@@ -33,8 +33,8 @@ enum-told-3 c = search needs
 break-off-requires : tie.Need-break-off-requires
 break-off-requires c κs = search needs
 
-line-requires : tie.Need-line-requires
-line-requires c κs = search needs
+none-requires : tie.Need-none-requires
+none-requires c κs = search needs
 
 same-length : tie.Need-same-length
 same-length c = search needs
@@ -68,7 +68,7 @@ returns-4 c =
 returns-5 : tie.Need-returns-5
 returns-5 c =
     let a = c .before .before .before .args in
-    goes-on (a .part) (a .size) (a .receiver) (a .counts) (now (a .packet)) _ (goes (a .part) (c .before .match .keys5)) record { receiver = refl; counts = refl; due = c .line .ensures; lent = refl }
+    goes-on (a .part) (a .size) (a .receiver) (a .counts) (now (a .packet)) _ (goes (a .part) (c .before .match .keys5)) record { receiver = refl; counts = refl; due = c .none .ensures; lent = refl }
 
 pub act-spec : {M : Type 1} → statement M
 act-spec =
@@ -83,7 +83,7 @@ act-spec =
     finish-requires
     enum-told-3
     break-off-requires
-    line-requires
+    none-requires
     same-length
     returns
     returns-2

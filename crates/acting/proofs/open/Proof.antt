@@ -7,11 +7,11 @@ use Rattle.acting.proofs.open.Tie as tie
 open-requires : tie.Need-open-requires
 open-requires c κs = search needs
 
-line-requires : tie.Need-line-requires
-line-requires c κs = search needs
+none-requires : tie.Need-none-requires
+none-requires c κs = search needs
 
 returns : tie.Need-returns
-returns c = record { receiver = ap (λ (o : Opening). o .receiver) (c .before .before .«open» .ensures); counts = refl; due = c .line .ensures }
+returns c = record { receiver = ap (λ (o : Opening). o .receiver) (c .before .before .«open» .ensures); counts = refl; due = c .none .ensures }
 
 pub open-spec : {M : Type 1} → statement M
-open-spec = tie.close (tie.spec open-requires line-requires returns)
+open-spec = tie.close (tie.spec open-requires none-requires returns)

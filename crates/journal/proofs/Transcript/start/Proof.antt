@@ -10,12 +10,12 @@ fresh-requires c κs = search needs
 none-requires : tie.Need-none-requires
 none-requires c κs = search needs
 
-line-requires : tie.Need-line-requires
-line-requires c κs = search needs
+none-requires-2 : tie.Need-none-requires-2
+none-requires-2 c κs = search needs
 
 returns : tie.Need-returns
 unfolding limit
-returns c = λ i. record { reader = c .before .before .fresh .ensures i; receiver = noReceiver; counts = c .before .none .ensures i; left = limit; due = c .line .ensures i }
+returns c = λ i. record { reader = c .before .before .fresh .ensures i; receiver = noReceiver; counts = c .before .none .ensures i; left = limit; due = c .none2 .ensures i }
 
 pub start-spec : {M : Type 1} → statement M
-start-spec = tie.close (tie.spec fresh-requires none-requires line-requires returns)
+start-spec = tie.close (tie.spec fresh-requires none-requires none-requires-2 returns)

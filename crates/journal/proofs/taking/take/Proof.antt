@@ -24,8 +24,8 @@ sub-read c =
     let r = c .before .before .before .before .read in
     used-fits (a .s) (now (a .packet)) (now (a .input)) (st .pre .0) (st .pre .1) (l .result) (l .ensures) (r .result .reader) _ (r .result .used) (r .ensures)
 
-line-requires : tie.Need-line-requires
-line-requires c κs = search needs
+none-requires : tie.Need-none-requires
+none-requires c κs = search needs
 
 settle-requires : tie.Need-settle-requires
 settle-requires c κs =
@@ -33,9 +33,9 @@ settle-requires c κs =
     let a = st .args in
     let l = c .before .before .before .before .before .before .before .before .before .least in
     let r = c .before .before .before .before .before .before .read in (
-      behind-ready (a .s) (now (a .packet)) (now (a .input)) (st .pre .0) (st .pre .1) (l .result) (l .ensures) (r .result .reader) _ (r .result .used) (r .ensures) (st .pre .2) _ (c .before .line .ensures),
+      behind-ready (a .s) (now (a .packet)) (now (a .input)) (st .pre .0) (st .pre .1) (l .result) (l .ensures) (r .result .reader) _ (r .result .used) (r .ensures) (st .pre .2) _ (c .before .none .ensures),
       search needs,
-      behind-more (a .s) (now (a .packet)) (now (a .input)) (st .pre .0) (st .pre .1) (l .result) (l .ensures) (r .result .reader) _ (r .result .used) (r .ensures) (st .pre .2) _ (c .before .line .ensures),
+      behind-more (a .s) (now (a .packet)) (now (a .input)) (st .pre .0) (st .pre .1) (l .result) (l .ensures) (r .result .reader) _ (r .result .used) (r .ensures) (st .pre .2) _ (c .before .none .ensures),
     )
 
 same-length : tie.Need-same-length
@@ -48,7 +48,7 @@ returns c =
     let l = c .before .before .before .before .before .before .before .before .before .before .before .before .least in
     let r = c .before .before .before .before .before .before .before .before .before .read in
     let t = c .before .before .settle in
-    takes (a .s) (now (a .packet)) (now (a .input)) (st .pre .0) (st .pre .1) (l .result) (l .ensures) (r .result .reader) _ (r .result .used) (r .ensures) (st .pre .2) _ (c .before .before .before .before .line .ensures) _ _
+    takes (a .s) (now (a .packet)) (now (a .input)) (st .pre .0) (st .pre .1) (l .result) (l .ensures) (r .result .reader) _ (r .result .used) (r .ensures) (st .pre .2) _ (c .before .before .before .before .none .ensures) _ _
     (t .ensures .0) (t .ensures .1)
 
 pub take-spec : {M : Type 1} → statement M
@@ -59,7 +59,7 @@ take-spec =
     slice-aggregate-read
     read-requires
     sub-read
-    line-requires
+    none-requires
     settle-requires
     same-length
     returns)
