@@ -10,10 +10,11 @@ use Rattle.packet.specs.declared.Packet.{Packet}
 use Rattle.packet.specs.Refusal.{number, outcomeNumber, isRefused}
 use Rattle.receiver_spec.specs.State.{Receiver}
 use Rattle.receiver_spec.specs.Answers.{gives, isLate, refuses, Answered}
+use Rattle.receiver_spec.specs.Kinds.{wasRefused, wasLate}
 use Rattle.boundary.specs.declared.ReceiverRecord.{ReceiverRecord}
 use Rattle.boundary.specs.declared.Step.{Step}
 use Rattle.boundary.specs.Answers.{packetBehind}
-use Rattle.boundary.specs.Receiving.{wasRefused, wasLate, recordOf, stepRecord, stepBehind, recordBehind}
+use Rattle.boundary.specs.Receiving.{recordOf, stepRecord, stepBehind, recordBehind}
 
 module _ (read before : Packet) where
   -- no refusal has the number 0

@@ -9,9 +9,10 @@ use Rattle.delivery.specs.Course.{courseOf, late, forward, Course, distance}
 use Rattle.receiver_spec.specs.State.{Receiver, sourceExpected}
 use Rattle.receiver_spec.specs.Step.{stepRead, firstStep, stepBy, stepOf}
 use Rattle.boundary.specs.declared.ReceiverRecord.{ReceiverRecord}
-use Rattle.boundary.specs.Receiving.{flag, bit, heldIn, recordOf, recordBehind}
+use Rattle.boundary.specs.Receiving.{bit, heldIn, recordOf, recordBehind}
+use Rattle.base.specs.Flags.{isSet}
 
-flag-bit : (b : Bool) → flag (bit b) ≡ b
+flag-bit : (b : Bool) → isSet (bit b) ≡ b
 flag-bit true = refl
 flag-bit false = refl
 

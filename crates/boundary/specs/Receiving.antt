@@ -1,17 +1,13 @@
 -- What the exported step says: its number, and the two records lent to it.
 use Prim.Native.Nat.{ℕ}
-use mathlib.Core.Bool.{Bool, true, false, cond, not}
-use lib.Dec.{eqb}
+use mathlib.Core.Bool.{Bool, true, false}
 use lib.IntN.{pos}
+use Rattle.base.specs.Flags.{isSet}
 use Rattle.receiver_spec.specs.State.{Receiver}
 use Rattle.receiver_spec.specs.Answers as Stepping
 use Rattle.receiver_spec.specs.Answers.{gives, isLate, refuses, Answered}
 use Rattle.boundary.specs.declared.ReceiverRecord.{ReceiverRecord}
 use Rattle.boundary.specs.declared.Step.{Step}
-
--- any byte but 0 is true
-abbrev pub flag : ℕ → Bool
-flag n = not (eqb n 0)
 
 abbrev pub bit : Bool → ℕ
 bit true = 1
@@ -19,20 +15,10 @@ bit false = 0
 
 -- the receiver that a record holds
 abbrev pub heldIn : ReceiverRecord → Receiver
-heldIn r = record { t140 = r .t140; red = r .red; hasSource = flag (r .«has_source»); source = r .source; expected = r .expected }
+heldIn r = record { t140 = r .t140; red = r .red; hasSource = isSet (r .«has_source»); source = r .source; expected = r .expected }
 
 abbrev pub recordOf : Receiver → ReceiverRecord
 recordOf r = record { t140 = r .t140; red = r .red; «has_source» = bit (r .hasSource); source = r .source; expected = r .expected }
-
-abbrev pub wasRefused : Answered → Bool
-wasRefused (refuses n) = true
-wasRefused (isLate z) = false
-wasRefused (gives g) = false
-
-abbrev pub wasLate : Answered → Bool
-wasLate (refuses n) = false
-wasLate (isLate z) = true
-wasLate (gives g) = false
 
 -- 0 where the packet is accepted, late or not
 abbrev pub stepNumber : Answered → ℕ

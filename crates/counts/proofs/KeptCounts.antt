@@ -12,10 +12,11 @@ use Rattle.receiver_spec.specs.Opening.{openingOf}
 use Rattle.receiver_spec.specs.State.{zeroReceiver, Receiver}
 use Rattle.receiver_spec.specs.Step.{stepOf}
 use Rattle.receiver_spec.specs.Answers.{gives, isLate, refuses, Answered}
+use Rattle.receiver_spec.specs.Kinds.{wasForward, wasLate, wasRefused}
 use Rattle.journal_spec.specs.Records.{Record, ending, opening, beginning, piece, time, bad, recordsOf}
 use Rattle.journal_spec.specs.Contents.{Contents, opens, packet, ends, breaks, unopened, between, within, zeros, longestPacket, contentsOf, limit, journalOf}
 use Rattle.journal_spec.specs.Lines.{countsLine, brokenLine}
-use Rattle.journal_spec.specs.Transcript.{packetsIn, isWhole, answersOf, printedOf, textOf, isForward, isLateOne, isRefused, howMany, lostIn, printed, transcript}
+use Rattle.journal_spec.specs.Transcript.{packetsIn, isWhole, answersOf, printedOf, textOf, howMany, lostIn, printed, transcript}
 use Rattle.counts.specs.Counts.{noCounts, counted, lineOf}
 
 -- what is printed of the contents still to come
@@ -78,7 +79,7 @@ opens-first (opening t140 red ∷ rs) = go (typesBad t140 red)
 -- the counts over a list of answers, on top of those so far
 abbrev lineWith : Counts → List Answered → List ℕ
 lineWith k answers =
-    countsLine (k .packets + howMany isForward answers) (k .late + howMany isLateOne answers) (k .lost + lostIn answers) (k .refused + howMany isRefused answers)
+    countsLine (k .packets + howMany wasForward answers) (k .late + howMany wasLate answers) (k .lost + lostIn answers) (k .refused + howMany wasRefused answers)
 
 same-line : {a a' b b' c c' d d' : ℕ} → a ≡ a' → b ≡ b' → c ≡ c' → d ≡ d' → countsLine a b c d ≡ countsLine a' b' c' d'
 same-line p q r s = λ i. countsLine (p i) (q i) (r i) (s i)

@@ -11,10 +11,11 @@ use Rattle.receiver_spec.specs.Opening.{openingOf}
 use Rattle.receiver_spec.specs.State.{Receiver}
 use Rattle.receiver_spec.specs.Step.{stepOf}
 use Rattle.receiver_spec.specs.Answers.{gives, isLate, refuses, Answered}
+use Rattle.receiver_spec.specs.Kinds.{wasForward, wasLate, wasRefused}
 use Rattle.receiver_spec.specs.Record.{blocksGiven, entriesOf}
 use Rattle.journal_spec.specs.Contents.{packetsThenEnd, wholeOf, journalOf}
 use Rattle.journal_spec.specs.Lines.{countsLine, brokenLine}
-use Rattle.journal_spec.specs.Transcript.{packetsIn, isWhole, answersOf, textOf, isForward, isLateOne, isRefused, howMany, lostIn, lineFor, printed, transcript}
+use Rattle.journal_spec.specs.Transcript.{packetsIn, isWhole, answersOf, textOf, howMany, lostIn, lineFor, printed, transcript}
 use Rattle.delivery.proofs.Entries.{mark-is-no-block}
 use Rattle.receiver_spec.proofs.OneEach.{OneEach, none, one, no-mark}
 use Rattle.journal_spec.proofs.Record.{writtenRecord, written-blocks, text-is-record}
@@ -29,10 +30,10 @@ is-whole (p ∷ ps) = is-whole ps
 
 -- answers of so many forward packets, without a loss
 pub record Forward (answers : List Answered) (n : ℕ) : Type 0 where
-  pub packets : howMany isForward answers ≡ n
-  pub late : howMany isLateOne answers ≡ 0
+  pub packets : howMany wasForward answers ≡ n
+  pub late : howMany wasLate answers ≡ 0
   pub lost : lostIn answers ≡ 0
-  pub refused : howMany isRefused answers ≡ 0
+  pub refused : howMany wasRefused answers ≡ 0
 
 one-more : (r : Receiver) (p b : List ℕ) (a : Answered) (answers : List Answered) (n : ℕ) → entriesOf r p a ≡ block b ∷ [] → Forward answers n → Forward (a ∷ answers) (suc n)
 one-more r p b (refuses m) answers n e f = absurd (let z : _≡_ {A = ℕ} 0 1 = ap length e in omega arith)
@@ -59,5 +60,5 @@ prints-each t140 red {ps} {bs} j e each =
     ∙ ap₂ {C = List ℕ} (λ (l : List (List ℕ)) (w : Bool). textOf r l ++ cond w (lineFor (answersOf r l)) brokenLine) (packets-are ps) (is-whole ps)
     ∙ ap₂ {C = List ℕ} (λ (x y : List ℕ). x ++ y)
     (text-is-record r ps ∙ ap writtenRecord (no-mark each) ∙ written-blocks bs)
-    (ap₂ {C = List ℕ} (λ (n k : ℕ). countsLine n k (lostIn (answersOf r ps)) (howMany isRefused (answersOf r ps))) (f .packets) (f .late)
+    (ap₂ {C = List ℕ} (λ (n k : ℕ). countsLine n k (lostIn (answersOf r ps)) (howMany wasRefused (answersOf r ps))) (f .packets) (f .late)
     ∙ ap₂ {C = List ℕ} (λ (n k : ℕ). countsLine (length ps) 0 n k) (f .lost) (f .refused))

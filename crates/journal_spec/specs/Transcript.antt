@@ -6,7 +6,8 @@ use mathlib.Core.Bool.{Bool, true, false, cond}
 use Rattle.receiver_spec.specs.Opening.{openingOf}
 use Rattle.receiver_spec.specs.State.{zeroReceiver, Receiver}
 use Rattle.receiver_spec.specs.Step.{stepOf, textGiven}
-use Rattle.receiver_spec.specs.Answers.{gives, isLate, refuses, Answered}
+use Rattle.receiver_spec.specs.Answers.{Answered}
+use Rattle.receiver_spec.specs.Kinds.{wasForward, wasLate, wasRefused}
 use Rattle.receiver_spec.specs.Record.{lossOf}
 use Rattle.receiver_spec.specs.Marks.{marks}
 use Rattle.journal_spec.specs.Contents.{Contents, opens, packet, ends, breaks, journalOf}
@@ -45,21 +46,6 @@ textOf r [] = []
 textOf r (p ∷ ps) = printedOf p (stepOf r p .answer) ++ textOf (stepOf r p .receiver) ps
 
 -- the counts, over the list of answers: ""packets" counts those neither late nor refused"
-abbrev pub isForward : Answered → Bool
-isForward (refuses n) = false
-isForward (isLate z) = false
-isForward (gives g) = true
-
-abbrev pub isLateOne : Answered → Bool
-isLateOne (refuses n) = false
-isLateOne (isLate z) = true
-isLateOne (gives g) = false
-
-abbrev pub isRefused : Answered → Bool
-isRefused (refuses n) = true
-isRefused (isLate z) = false
-isRefused (gives g) = false
-
 abbrev pub howMany : (Answered → Bool) → List Answered → ℕ
 howMany f [] = 0
 howMany f (a ∷ answers) = cond (f a) 1 0 + howMany f answers
@@ -69,7 +55,7 @@ lostIn [] = 0
 lostIn (a ∷ answers) = lossOf a + lostIn answers
 
 abbrev pub lineFor : List Answered → List ℕ
-lineFor answers = countsLine (howMany isForward answers) (howMany isLateOne answers) (lostIn answers) (howMany isRefused answers)
+lineFor answers = countsLine (howMany wasForward answers) (howMany wasLate answers) (lostIn answers) (howMany wasRefused answers)
 
 abbrev pub printed : Contents → List ℕ
 printed c =

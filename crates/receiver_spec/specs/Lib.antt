@@ -1,5 +1,6 @@
 pub mod State
 pub mod Answers
+pub mod Kinds
 pub mod Opening
 pub mod Distance
 pub mod Step

@@ -52,7 +52,8 @@ use Rattle.receiver.proofs.Advanced as S
 use Rattle.receiver.proofs.Advanced.Laws as S′
 use Rattle.boundary.specs.declared.ReceiverRecord.{ReceiverRecord}
 use Rattle.boundary.specs.declared.Step.{Step}
-use Rattle.boundary.specs.Receiving.{heldIn, recordOf, wasRefused, wasLate, stepNumber, stepRecord, stepBehind, recordBehind}
+use Rattle.boundary.specs.Receiving.{heldIn, recordOf, stepNumber, stepRecord, stepBehind, recordBehind}
+use Rattle.receiver_spec.specs.Kinds.{wasRefused, wasLate}
 use Rattle.boundary.proofs.Behind.{step-stays, step-told, refused-stays, late-stays, moves-on}
 use Rattle.boundary.proofs.ReceiverRecord as R
 use Rattle.boundary.proofs.Step as D
