@@ -12,7 +12,8 @@ pub data Entry : Type 0 where
   mark : Entry
   block : Bytes → Entry
 
--- the last n of a list
+-- the last n of a list:
+-- all of it, where it has fewer
 abbrev pub lastOf : {A : Type 0} → ℕ → List A → List A
 lastOf n xs = drop (length xs - n) xs
 
