@@ -11,6 +11,7 @@ use Rattle.sender.specs.declared.Sender.{Sender}
 use Rattle.writer.specs.declared.Answer.{Answer}
 use Rattle.writer.specs.declared.Answer.the-variants.{Refused, Quiet, Sent}
 use Rattle.base.specs.Arrays.{over}
+use Rattle.base.specs.Flags.{isSet}
 use Rattle.base.specs.Checks.{checked}
 use Rattle.sender_spec.specs.State as State
 use Rattle.sender_spec.specs.State.{hasText}
@@ -22,12 +23,12 @@ use Rattle.settings.specs.State.{settingsOf}
 use Rattle.settings.specs.declared.Judged.{Judged}
 use Rattle.settings.specs.declared.Judged.the-variants as Judgements
 use Rattle.settings.specs.Judging as Judging
-use Rattle.settings.specs.Judging.{Judgement, refuses, judged, isQuiet, judgementOf}
+use Rattle.settings.specs.Judging.{Judgement, refuses, judged, isEarly, isReady, judgementOf}
 use Rattle.slots.specs.Slots.{textsSize}
 use Rattle.writer.specs.Draft as Draft
 use Rattle.writer.specs.Draft.{answered, putOf}
 use Rattle.sender.specs.State.{stateOf}
-use Rattle.sender.specs.Clocking.{judgementAt, draftOf, recordBehind, Clocks}
+use Rattle.sender.specs.Clocking.{judgementAt, refusedBy, markerOf, draftOf, recordAt, recordBehind, Clocks}
 use Rattle.sender.proofs.Behind.{after-is}
 use Rattle.sender.proofs.Drafted.{packet-is}
 
@@ -38,7 +39,7 @@ module _ (s : State.Sender) (t : ℕ) (p : List ℕ) where
 
   abbrev pub resultBy : Judgement → ClockResult
   resultBy (refuses n) = clockRefused s p n
-  resultBy Judging.quiet = clockQuiet s t p
+  resultBy Judging.early = clockQuiet s t p
   resultBy Judging.ready = cond hasSome (checked (clockRefused s p) (spaceChecks s t p) (clockSent s t p)) (clockQuiet s t p)
 
   pub by-judgement : clockOf s t p ≡ resultBy (judgementOf (s .settings) (s .clock) (s .progress) t)
@@ -48,7 +49,7 @@ module _ (s : State.Sender) (t : ℕ) (p : List ℕ) where
       go : (a b c : Bool)
           → cond a (clockRefused s p (settingsNumber (s .settings)))
           (cond b (clockRefused s p 5) (cond (c && hasSome) (checked (clockRefused s p) (spaceChecks s t p) (clockSent s t p)) (clockQuiet s t p)))
-          ≡ resultBy (cond a (refuses (settingsNumber (s .settings))) (cond b (refuses 5) (cond c Judging.ready Judging.quiet)))
+          ≡ resultBy (cond a (refuses (settingsNumber (s .settings))) (cond b (refuses 5) (cond c Judging.ready Judging.early)))
       go true b c = refl
       go false true c = refl
       go false false true = refl
@@ -60,12 +61,25 @@ module _ (s : State.Sender) (t : ℕ) (p : List ℕ) where
     where
       refusing : Judgement → ℕ
       refusing (refuses n) = 1
-      refusing Judging.quiet = 0
+      refusing Judging.early = 0
       refusing Judging.ready = 0
 
       go : (b : Bool) → eqb (settingsNumber (s .settings)) 0 ≡ b → (j : Judgement) → Judging.ready ≡ cond (not b) (refuses (settingsNumber (s .settings))) j → settingsNumber (s .settings) ≡ 0
       go true q j e = eqb-true (settingsNumber (s .settings)) 0 q
       go false q j e = absurd (let z : 0 ≡ 1 = ap refusing e in omega arith)
+
+pub ready-is : (s : Sender) (t : ℕ) (j : Judged) → Holds (isReady j) → judged j ≡ judgementAt s t → Judging.ready ≡ judgementAt s t
+ready-is s t (Judgements.Refused r) h e = absurd h
+ready-is s t Judgements.Early h e = absurd h
+ready-is s t Judgements.Ready h e = e
+
+-- M is 1 on the first packet
+pub first-marked : (s : Sender) → Holds (not (isSet (s .progress .sent))) → true ≡ markerOf s
+first-marked s h = go (not (isSet (s .progress .sent))) _ h
+  where
+    go : (b c : Bool) → Holds b → true ≡ (b || c)
+    go true c h = refl
+    go false c h = absurd h
 
 abbrev senderFor : Answered → State.Sender → ℕ → State.Sender
 senderFor (refused n) s t = s
@@ -76,17 +90,23 @@ module _ (s : Sender) (texts : List ℕ) (t : ℕ) (p : List ℕ) where
   abbrev state : State.Sender
   state = stateOf s texts
 
-  -- a call that is judged quiet
-  pub quiet-is : (j : Judged) → Holds (isQuiet j) → judged j ≡ judgementAt s t → Clocks s texts t p Quiet (recordBehind Quiet s t) p
-  quiet-is (Judgements.Refused r) h e = absurd h
-  quiet-is Judgements.Quiet h e = record { result = ap (resultBy state t p) e ∙ sym (by-judgement state t p); fields = refl }
-  quiet-is Judgements.Ready h e = absurd h
+  -- a call that comes too early for a packet
+  pub early-is : (j : Judged) → Holds (isEarly j) → judged j ≡ judgementAt s t → Clocks s texts t p Quiet (recordAt s t) p
+  early-is (Judgements.Refused r) h e = absurd h
+  early-is Judgements.Early h e = record { result = ap (resultBy state t p) e ∙ sym (by-judgement state t p); fields = refl }
+  early-is Judgements.Ready h e = absurd h
+
+  -- one that is neither ready nor early
+  pub refused-is : (j : Judged) → Holds (not (isReady j)) → Holds (not (isEarly j)) → judged j ≡ judgementAt s t → Clocks s texts t p (refusedBy j) s p
+  refused-is (Judgements.Refused r) h k e = record { result = ap (resultBy state t p) e ∙ sym (by-judgement state t p); fields = refl }
+  refused-is Judgements.Early h k e = absurd k
+  refused-is Judgements.Ready h k e = absurd h
 
   abbrev turned : Draft.Result → ClockResult
   turned r = record { answer = r .answer; sender = senderFor (r .answer) state t; lent = r .lent }
 
   module _ (size : length texts ≡ textsSize) (ready : Judging.ready ≡ judgementOf (state .settings) (state .clock) (state .progress) t) where
-    turned-is : turned (putOf (draftOf s t) texts p) ≡ clockOf state t p
+    turned-is : turned (putOf (draftOf s t (markerOf s)) texts p) ≡ clockOf state t p
     unfolding putOf
     turned-is =
         ap (λ (q : List ℕ). turned
@@ -106,7 +126,7 @@ module _ (s : Sender) (texts : List ℕ) (t : ℕ) (p : List ℕ) where
         go true false = refl
         go false c = refl
 
-    pub answered-is : (r : Answer) (p' : List ℕ) → record { answer = answered r; lent = p' } ≡ putOf (draftOf s t) texts p → Clocks s texts t p r (recordBehind r s t) p'
+    pub answered-is : (r : Answer) (p' : List ℕ) → record { answer = answered r; lent = p' } ≡ putOf (draftOf s t (markerOf s)) texts p → Clocks s texts t p r (recordBehind r s t) p'
     answered-is r p' e = record { result = behind r ∙ ap turned e ∙ turned-is; fields = refl }
       where
         behind : (r : Answer) → record { answer = answered r; sender = stateOf (recordBehind r s t) texts; lent = p' } ≡ turned (record { answer = answered r; lent = p' })

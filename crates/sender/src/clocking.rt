@@ -1,21 +1,23 @@
 // The clock call.
 ghost use mathlib.Core.Path.{_≡_};
+ghost use mathlib.Core.Bool.{not};
+ghost use lib.ListN.{length};
+ghost use Rattle.base.specs.Flags.{isSet};
 ghost use Rattle.settings.specs.Judging.{judged};
-ghost use Rattle.sender.specs.Clocking.{judgementAt, draftOf, recordAt, recordAfter, recordBehind, Clocks};
+ghost use Rattle.writer.specs.Draft.{answerBy};
+ghost use Rattle.sender.specs.Clocking.{judgementAt, refusedBy, markerOf, draftOf, recordAt, recordAfter, recordBehind, Sends};
 use crate::Sender;
 use settings::Judged;
 use writer::Answer;
 use writer::Draft;
 
-fn draft(sender: Sender, clock: u64) -> Draft
-    ensures { λ r. ⌜ r ≡ draftOf sender clock ⌝ }
+fn draft(sender: Sender, clock: u64, marker: bool) -> Draft
+    ensures { λ r. ⌜ r ≡ draftOf sender clock marker ⌝ }
 {
     let settings = sender.settings;
     let progress = sender.progress;
     let waiting = sender.waiting;
     let kept = sender.kept;
-    let waits = 0 < waiting.len;
-    let marker = settings::marker(progress, settings.buffering, waits, waiting.since);
     let timestamp = settings::timestamp(settings.timestamp, clock);
     let lens = kept.lens;
     let ats = kept.ats;
@@ -45,25 +47,49 @@ pub fn judge(sender: Sender, clock: u64) -> Judged
     settings::judge(settings, sender.clock, progress, clock)
 }
 
-// Answers the call that was judged so, and writes the packet where one is due. They are two, so that a quiet call reads of the
-// sender only what judges it.
-pub fn answer(
-    judgement: Judged,
-    sender: Sender,
-    clock: u64,
-    texts: &[u8; Sender::TEXTS],
-    packet: &mut [u8],
-) -> Answer
-    ensures { λ r. ⌜ (judged judgement ≡ judgementAt sender clock → Clocks sender (now (texts .entry)) clock (now (packet .entry)) r (recordBehind r sender clock) (now (packet .exit))) ⌝ }
+// The answer to a call that is judged refused.
+pub fn refused(judgement: Judged) -> Answer
+    ensures { λ r. ⌜ r ≡ refusedBy judgement ⌝ }
 {
     match judgement {
         Judged::Refused(refusal) => Answer::Refused(refusal),
-        Judged::Quiet => Answer::Quiet,
-        Judged::Ready => {
-            let draft = draft(sender, clock);
-            writer::put_packet(packet, texts, draft)
-        }
+        Judged::Early => Answer::Quiet,
+        Judged::Ready => Answer::Quiet,
     }
+}
+
+// No packet was sent yet.
+pub fn is_first(sender: Sender) -> bool
+    ensures { λ r. ⌜ r ≡ not (isSet (sender .progress .sent)) ⌝ }
+{
+    let progress = sender.progress;
+    let sent = progress.has_sent();
+    !sent
+}
+
+// M of the next packet.
+pub fn marker(sender: Sender) -> bool
+    ensures { λ r. ⌜ r ≡ markerOf sender ⌝ }
+{
+    let settings = sender.settings;
+    let progress = sender.progress;
+    let waiting = sender.waiting;
+    let waits = 0 < waiting.len;
+    settings::marker(progress, settings.buffering, waits, waiting.since)
+}
+
+// Writes the packet of a call that is ready, with this M, where the space holds it; its length, 0 where there is nothing to send.
+pub fn put(
+    sender: Sender,
+    texts: &[u8; Sender::TEXTS],
+    clock: u64,
+    packet: &mut [u8],
+    marker: bool,
+) -> usize
+    ensures { λ r. ⌜ Sends sender (now (texts .entry)) clock (now (packet .entry)) marker r (recordBehind (answerBy r (length (now (packet .entry)))) sender clock) (now (packet .exit)) ⌝ }
+{
+    let draft = draft(sender, clock, marker);
+    writer::put_packet(packet, texts, draft)
 }
 
 // The sender behind a quiet call.

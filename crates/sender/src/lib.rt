@@ -6,7 +6,7 @@ mod opening;
 
 ghost use Rattle.sender.specs.Opening.{Opens};
 ghost use Rattle.sender.specs.Offering.{Offers};
-ghost use Rattle.sender.specs.Clocking.{Clocks};
+ghost use Rattle.sender.specs.Clocking.{Clocks, Sends};
 use carrying::Block;
 use packet::Outcome;
 use packet::Packet;
@@ -79,19 +79,43 @@ impl Sender {
         ensures { λ r. ⌜ Clocks (now (self .entry)) (now (texts .entry)) clock (now (packet .entry)) r (now (self .exit)) (now (packet .exit)) ⌝ }
     {
         let judgement = clocking::judge(*self, clock);
-        if judgement.is_quiet() {
+        if judgement.is_ready() {
+            if clocking::is_first(*self) {
+                let size = self.send(texts, clock, packet, true);
+                return Answer::by_size(size, packet.len());
+            }
+            let marker = clocking::marker(*self);
+            let size = self.send(texts, clock, packet, marker);
+            return Answer::by_size(size, packet.len());
+        }
+        if judgement.is_early() {
             *self = clocking::at(*self, clock);
             return Answer::Quiet;
         }
-        let answer = clocking::answer(judgement, *self, clock, texts, packet);
+        clocking::refused(judgement)
+    }
+
+    // Answers a call that is ready, by the packet's length, and goes on behind it. This is apart from the clock call, and has two
+    // callers, so that a quiet call does not make ready for it.
+    fn send(
+        &mut self,
+        texts: &[u8; Sender::TEXTS],
+        clock: u64,
+        packet: &mut [u8],
+        marker: bool,
+    ) -> usize
+        ensures { λ r. ⌜ Sends (now (self .entry)) (now (texts .entry)) clock (now (packet .entry)) marker r (now (self .exit)) (now (packet .exit)) ⌝ }
+    {
+        let size = clocking::put(*self, texts, clock, packet, marker);
+        let answer = Answer::by_size(size, packet.len());
         if answer.is_quiet() {
             *self = clocking::at(*self, clock);
-            return answer;
+            return size;
         }
         if answer.is_sent() {
             *self = clocking::after(*self, clock);
-            return answer;
+            return size;
         }
-        answer
+        size
     }
 }

@@ -7,7 +7,7 @@ use borrow.Author.Tests.{lt-ltb, le-ltb, ne-eqb}
 use Rattle.sender_spec.specs.State as State
 use Rattle.sender_spec.specs.Settings.{settingsNumber}
 use Rattle.sender_spec.specs.Packets.{readyAt}
-use Rattle.settings.specs.Judging.{refuses, quiet, ready, judgementOf}
+use Rattle.settings.specs.Judging.{refuses, early, ready, judgementOf}
 
 module _ (s : State.Settings) (latest : ℕ) (p : State.Progress) (t : ℕ) (n : ℕ) (e : n ≡ settingsNumber s) where
   pub judge-settings : 1 ≤ n → judgementOf s latest p t ≡ refuses n
@@ -21,5 +21,5 @@ module _ (s : State.Settings) (latest : ℕ) (p : State.Progress) (t : ℕ) (n :
       pub judge-ready : readyAt (s .buffering) p t ≡ true → judgementOf s latest p t ≡ ready
       judge-ready h = rw (← e, ok, le-ltb t latest later, h)
 
-      pub judge-quiet : readyAt (s .buffering) p t ≡ false → judgementOf s latest p t ≡ quiet
-      judge-quiet h = rw (← e, ok, le-ltb t latest later, h)
+      pub judge-early : readyAt (s .buffering) p t ≡ false → judgementOf s latest p t ≡ early
+      judge-early h = rw (← e, ok, le-ltb t latest later, h)

@@ -9,22 +9,27 @@ use Rattle.sender_spec.specs.State as State
 use Rattle.sender_spec.specs.Settings.{settingsCheck}
 use Rattle.sender_spec.specs.Packets.{readyAt}
 use Rattle.settings.specs.declared.Judged.{Judged}
-use Rattle.settings.specs.declared.Judged.the-variants.{Refused, Quiet, Ready}
+use Rattle.settings.specs.declared.Judged.the-variants.{Refused, Early, Ready}
 
 pub data Judgement : Type 0 where
   refuses : ℕ → Judgement
-  quiet : Judgement
+  early : Judgement
   ready : Judgement
 
 abbrev pub judged : Judged → Judgement
 judged (Refused r) = refuses (number r)
-judged Quiet = quiet
+judged Early = early
 judged Ready = ready
 
-abbrev pub isQuiet : Judged → Bool
-isQuiet (Refused r) = false
-isQuiet Quiet = true
-isQuiet Ready = false
+abbrev pub isEarly : Judged → Bool
+isEarly (Refused r) = false
+isEarly Early = true
+isEarly Ready = false
+
+abbrev pub isReady : Judged → Bool
+isReady (Refused r) = false
+isReady Early = false
+isReady Ready = true
 
 abbrev pub judgementOf : State.Settings → ℕ → State.Progress → ℕ → Judgement
-judgementOf s latest p t = checked refuses (settingsCheck s ∷ ltb t latest gives 5 ∷ []) (cond (readyAt (s .buffering) p t) ready quiet)
+judgementOf s latest p t = checked refuses (settingsCheck s ∷ ltb t latest gives 5 ∷ []) (cond (readyAt (s .buffering) p t) ready early)

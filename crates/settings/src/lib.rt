@@ -8,7 +8,7 @@ ghost use Rattle.packet.specs.Refusal.{outcomeNumber};
 ghost use Rattle.sender_spec.specs.Settings.{bufferingBad, settingsNumber};
 ghost use Rattle.sender_spec.specs.Packets.{readyAt};
 ghost use Rattle.settings.specs.State.{settingsOf, progressOf, progressBehind};
-ghost use Rattle.settings.specs.Judging.{judged, isQuiet, judgementOf};
+ghost use Rattle.settings.specs.Judging.{judged, isEarly, isReady, judgementOf};
 use packet::Outcome;
 use packet::Packet;
 use packet::Refusal;
@@ -46,19 +46,30 @@ pub struct Progress {
 // What a clock call comes to, before the texts are looked at.
 pub enum Judged {
     Refused(Refusal),
-    Quiet,
+    // No packet is due yet.
+    Early,
     // A packet is due if it has text.
     Ready,
 }
 
 impl Judged {
-    pub fn is_quiet(self) -> bool
-        ensures { λ r. ⌜ r ≡ isQuiet self ⌝ }
+    pub fn is_early(self) -> bool
+        ensures { λ r. ⌜ r ≡ isEarly self ⌝ }
     {
         match self {
-            Judged::Quiet => true,
+            Judged::Early => true,
             Judged::Refused(_) => false,
             Judged::Ready => false,
+        }
+    }
+
+    pub fn is_ready(self) -> bool
+        ensures { λ r. ⌜ r ≡ isReady self ⌝ }
+    {
+        match self {
+            Judged::Ready => true,
+            Judged::Refused(_) => false,
+            Judged::Early => false,
         }
     }
 }
@@ -125,7 +136,7 @@ pub fn judge(settings: Settings, latest: u64, progress: Progress, clock: u64) ->
     if ready(progress, settings.buffering, clock) {
         return Judged::Ready;
     }
-    Judged::Quiet
+    Judged::Early
 }
 
 // M of a packet, by whether text waits, and when its first byte was offered.

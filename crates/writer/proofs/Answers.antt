@@ -1,22 +1,39 @@
 -- What is answered, by plain facts.
-use Prim.Native.Nat.{ℕ, _+_, _≤_, _<_, min}
+use Prim.Native.Nat.{ℕ, _+_, _*_, _≤_, _<_, min}
 use mathlib.Core.Path.{_≡_, _∙_, ap, sym}
 use mathlib.Core.List.{List}
-use mathlib.Core.Bool.{Bool, cond}
+use mathlib.Core.Bool.{Bool, true, false, cond}
 use native.Mathlib.Omega.{arith}
-use lib.Dec.{ltb}
+use lib.Dec.{ltb, eqb}
 use lib.ListN.{length, take}
-use borrow.Author.Tests.{lt-ltb, le-ltb}
+use borrow.Author.Tests.{lt-ltb, le-ltb, ne-eqb}
 use Rattle.writer.specs.declared.Draft.{Draft}
+use Rattle.writer.specs.declared.Answer.the-variants.{Refused, Sent}
 use Rattle.base.specs.Arrays.{over}
+use Rattle.packet.specs.declared.Refusal.the-variants.{Space}
 use Rattle.packet_spec.specs.Limits.{level}
 use Rattle.sender_spec.specs.Limits.{roomSize}
 use Rattle.sender_spec.specs.Answers.{refused, quiet, sent}
-use Rattle.writer.specs.Draft.{Result, putOf}
+use Rattle.writer.specs.Draft.{Result, answerBy, putOf}
 use Rattle.carrying.specs.Young.{youngRun, textTotal}
 use Rattle.slots.specs.Slots.{textsSize}
 use Rattle.writer.specs.Parts.{packetWith, packetSize}
 use Rattle.writer.proofs.Whole.{packet-is, size-is, some-is}
+
+-- a packet has a header
+size-some : (R n older primary : ℕ) → 0 < packetSize R n older primary
+size-some R n older primary = go (eqb R 0)
+  where
+    go : (b : Bool) → 0 < cond b (12 + primary) (12 + (4 * n + 1 + (older + primary)))
+    go true = omega arith
+    go false = omega arith
+
+module _ (R n older primary size space : ℕ) (e : size ≡ packetSize R n older primary) where
+  pub by-short : space < size → answerBy size space ≡ Refused Space
+  by-short h = rw (ne-eqb size 0 (λ z. omega (arith, size-some R n older primary)), lt-ltb space size h)
+
+  pub by-sent : size ≤ space → answerBy size space ≡ Sent size
+  by-sent h = rw (ne-eqb size 0 (λ z. omega (arith, size-some R n older primary)), le-ltb space size h)
 
 abbrev put : Bool → Bool → ℕ → List ℕ → List ℕ → Result
 put some few n w p =

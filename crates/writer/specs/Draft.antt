@@ -8,6 +8,7 @@ use Rattle.writer.specs.declared.Draft.{Draft}
 use Rattle.writer.specs.declared.Answer.{Answer}
 use Rattle.writer.specs.declared.Answer.the-variants.{Refused, Quiet, Sent}
 use Rattle.base.specs.Arrays.{over}
+use Rattle.packet.specs.declared.Refusal.the-variants.{Space}
 use Rattle.packet.specs.Refusal.{number}
 use Rattle.packet_spec.specs.Reading.{Content}
 use Rattle.packet_spec.specs.Encoding.{plainBytes, redundantBytes}
@@ -53,6 +54,10 @@ abbrev pub answered : Answer → Answered
 answered (Refused r) = refused (number r)
 answered Quiet = quiet
 answered (Sent n) = sent n
+
+-- by the length of the packet, 0 where there is nothing to send, and the length of the space
+abbrev pub answerBy : ℕ → ℕ → Answer
+answerBy n space = cond (eqb n 0) Quiet (cond (ltb space n) (Refused Space) (Sent n))
 
 abbrev pub isQuiet : Answer → Bool
 isQuiet (Refused r) = false

@@ -7,7 +7,7 @@ ghost use Prim.Native.Nat.{_*_, _≤_};
 ghost use lib.ListN.{length};
 ghost use Rattle.packet_spec.specs.Limits.{level};
 ghost use Rattle.sender_spec.specs.Limits.{roomSize};
-ghost use Rattle.writer.specs.Draft.{answered, isQuiet, isSent, putOf};
+ghost use Rattle.writer.specs.Draft.{answered, answerBy, isQuiet, isSent, putOf};
 ghost use Rattle.slots.specs.Slots.{textsSize};
 ghost use Rattle.writer.specs.Parts.{packetSize};
 use heading::Front;
@@ -42,6 +42,19 @@ pub enum Answer {
 }
 
 impl Answer {
+    // By the length of the packet, 0 where there is nothing to send, and the length of the space.
+    pub fn by_size(size: usize, space: usize) -> Answer
+        ensures { λ r. ⌜ r ≡ answerBy size space ⌝ }
+    {
+        if size == 0 {
+            return Answer::Quiet;
+        }
+        if space < size {
+            return Answer::Refused(Refusal::Space);
+        }
+        Answer::Sent(size)
+    }
+
     pub fn is_quiet(self) -> bool
         ensures { λ r. ⌜ r ≡ isQuiet self ⌝ }
     {
@@ -63,16 +76,17 @@ impl Answer {
     }
 }
 
-// Writes the packet to the front of the space, where there is something to send and the space holds it. So many texts are lent.
-pub fn put_packet(packet: &mut [u8], texts: &[u8; Texts::SIZE], draft: Draft) -> Answer
-    ensures { λ r. ⌜ (record { answer = answered r; lent = now (packet .exit) } ≡ putOf draft (now (texts .entry)) (now (packet .entry))) × (length (now (texts .entry)) ≡ textsSize) ⌝ }
+// The length of the packet, 0 where there is nothing to send. It is written to the front of the space, where that holds it; else
+// the space stays. So many texts are lent.
+pub fn put_packet(packet: &mut [u8], texts: &[u8; Texts::SIZE], draft: Draft) -> usize
+    ensures { λ r. ⌜ (record { answer = answered (answerBy r (length (now (packet .entry)))); lent = now (packet .exit) } ≡ putOf draft (now (texts .entry)) (now (packet .entry))) × (length (now (texts .entry)) ≡ textsSize) ⌝ }
 {
     put_draft(packet, texts, draft)
 }
 
-fn put_draft(packet: &mut [u8], texts: &[u8], draft: Draft) -> Answer
+fn put_draft(packet: &mut [u8], texts: &[u8], draft: Draft) -> usize
     requires { ⌜ length (now texts) ≡ textsSize ⌝ }
-    ensures { λ r. ⌜ record { answer = answered r; lent = now (packet .exit) } ≡ putOf draft (now (texts .entry)) (now (packet .entry)) ⌝ }
+    ensures { λ r. ⌜ record { answer = answered (answerBy r (length (now (packet .entry)))); lent = now (packet .exit) } ≡ putOf draft (now (texts .entry)) (now (packet .entry)) ⌝ }
 {
     let lens = draft.lens;
     let ats = draft.ats;
@@ -81,11 +95,11 @@ fn put_draft(packet: &mut [u8], texts: &[u8], draft: Draft) -> Answer
     let older = carried.text;
     let primary = numbers::least(draft.len, Texts::ROOM);
     if older + primary == 0 {
-        return Answer::Quiet;
+        return 0;
     }
     let size = size(draft.level, carried.count, older, primary);
     if packet.len() < size {
-        return Answer::Refused(Refusal::Space);
+        return size;
     }
     let front = Front {
         level: draft.level,
@@ -108,7 +122,7 @@ fn put_draft(packet: &mut [u8], texts: &[u8], draft: Draft) -> Answer
         draft.len,
         carried.count,
     );
-    Answer::Sent(size)
+    size
 }
 
 // The length of a packet with `count` older blocks of `older` bytes together, and a primary of `primary` bytes.

@@ -3,7 +3,7 @@ use borrow.Author.Needs.{needs}
 use Rattle.packet.specs.Refusal.{number, outcomeNumber}
 use Rattle.packet.proofs.Names.{number-positive}
 use Rattle.settings.specs.State.{settingsOf, progressOf}
-use Rattle.settings.proofs.Judging.{judge-settings, judge-5, judge-ready, judge-quiet}
+use Rattle.settings.proofs.Judging.{judge-settings, judge-5, judge-ready, judge-early}
 use Rattle.settings.proofs.judge.Statement.{statement}
 use Rattle.settings.proofs.judge.Tie as tie
 
@@ -45,7 +45,7 @@ returns-4 c =
     let q = c .before .before in
     let a = q .before .before .before .before .args in
     let r = q .before .before .before .settings-outcome in
-    sym (judge-quiet (settingsOf (a .settings)) (a .latest) (progressOf (a .progress)) (a .clock) (outcomeNumber (r .result)) (r .ensures) (ap outcomeNumber (q .before .enum-told .given .1)) (q .if1 .left) (sym (c .before .ready .ensures) ∙ c .if2 .left))
+    sym (judge-early (settingsOf (a .settings)) (a .latest) (progressOf (a .progress)) (a .clock) (outcomeNumber (r .result)) (r .ensures) (ap outcomeNumber (q .before .enum-told .given .1)) (q .if1 .left) (sym (c .before .ready .ensures) ∙ c .if2 .left))
 
 pub judge-spec : {M : Type 1} → statement M
 judge-spec =

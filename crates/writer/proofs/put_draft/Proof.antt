@@ -14,9 +14,10 @@ use Rattle.sender_spec.specs.Answers.{sent}
 use Rattle.carrying.specs.Young.{youngRun, textTotal}
 use Rattle.heading.specs.Headers.{frontWith}
 use Rattle.heading.proofs.Headers.{front-over}
+use Rattle.writer.specs.Draft.{answered}
 use Rattle.writer.specs.Parts.{textsOf, frontIn, packetWith, packetSize}
 use Rattle.writer.proofs.Whole.{few, front-size, size-is}
-use Rattle.writer.proofs.Answers.{put-quiet, put-short, put-sent}
+use Rattle.writer.proofs.Answers.{by-short, by-sent, put-quiet, put-short, put-sent}
 use borrow.Author.Needs.{needs}
 use Rattle.writer.proofs.put_draft.Statement.{statement}
 use Rattle.writer.proofs.put_draft.Tie as tie
@@ -68,7 +69,12 @@ returns-2 c =
     let r = s .before .before .before in
     let st = r .before .before .before .before .before .before in
     let a = st .args in
-    put-short (a .draft) (now (a .texts)) (r .run .result .count) (lens-long st) (ats-long st) (st .pre) (run-is r) (now (a .packet))
+    let n = r .run .result .count in
+    (λ i. record {
+      answer = answered (by-short (a .draft .level) n (textTotal (take n (a .draft .lens))) (min (a .draft .len) roomSize) (s .size .result) (length (now (a .packet))) (size-of s) (c .if2 .taken) i);
+      lent = now (a .packet);
+    })
+    ∙ put-short (a .draft) (now (a .texts)) (r .run .result .count) (lens-long st) (ats-long st) (st .pre) (run-is r) (now (a .packet))
     (omega (arith, s .before .if1 .left, r .run .ensures .1, s .before .before .least2 .ensures)) (omega (arith, c .if2 .taken, size-of s))
 
 abbrev front : tie.Else2 → List ℕ
@@ -167,7 +173,12 @@ returns-3 c =
     let r = s .before .before .before in
     let st = r .before .before .before .before .before .before in
     let a = st .args in
-    (λ i. record { answer = sent (size-of s i); lent = whole (c .before .before) i })
+    let n = r .run .result .count in
+    (λ i. record {
+      answer = answered (by-sent (a .draft .level) n (textTotal (take n (a .draft .lens))) (min (a .draft .len) roomSize) (s .size .result) (length (now (a .packet))) (size-of s) (e .if2 .left) i);
+      lent = whole (c .before .before) i;
+    })
+    ∙ (λ i. record { answer = sent (size-of s i); lent = over (packetWith (a .draft) (now (a .texts)) n) (now (a .packet)) })
     ∙ put-sent (a .draft) (now (a .texts)) (r .run .result .count) (lens-long st) (ats-long st) (st .pre) (run-is r) (now (a .packet))
     (omega (arith, s .before .if1 .left, r .run .ensures .1, s .before .before .least2 .ensures)) (omega (arith, e .if2 .left, size-of s))
 

@@ -3,21 +3,18 @@ use borrow.Author.Needs.{needs}
 use Rattle.sender.proofs.clocking.draft.Statement.{statement}
 use Rattle.sender.proofs.clocking.draft.Tie as tie
 
-marker-requires : tie.Need-marker-requires
-marker-requires c κs = search needs
-
 timestamp-requires : tie.Need-timestamp-requires
 timestamp-requires c κs = search needs
 
 returns : tie.Need-returns
 returns c =
-    let a = c .before .before .before .before .before .before .before .before .before .args in
+    let a = c .before .before .before .before .before .before .before .args in
     let s = a .sender in
     λ i. record {
       level = s .settings .level;
       t140 = s .settings .t140;
       red = s .settings .red;
-      marker = c .before .before .before .marker .ensures i;
+      marker = a .marker;
       sequence = s .progress .next;
       timestamp = c .before .before .timestamp .ensures i;
       source = s .settings .source;
@@ -30,4 +27,4 @@ returns c =
     }
 
 pub draft-spec : {M : Type 1} → statement M
-draft-spec = tie.close (tie.spec marker-requires timestamp-requires returns)
+draft-spec = tie.close (tie.spec timestamp-requires returns)
