@@ -13,7 +13,7 @@ use Rattle.counts.specs.declared.Counts.{Counts}
 use Rattle.counts.specs.Counts.{lineOf}
 use Rattle.due.specs.declared.Due.{Due}
 use Rattle.acting.specs.declared.Acted.{Acted}
-use Rattle.acting.specs.Acting.{Opens, Steps, Line, Goes, Acts}
+use Rattle.acting.specs.internal.Acting.{OpensReceiver, Steps, PutsLine, Goes, Acts}
 
 module _ (q : Part) (size : ℕ) (r : Receiver) (k : Counts) (p : List ℕ) where
   at-part : (q' : Part) (a : Acted) (p' : List ℕ) → q ≡ q' → Acts q' size r k p a p' → Acts q size r k p a p'
@@ -23,15 +23,15 @@ module _ (q : Part) (size : ℕ) (r : Receiver) (k : Counts) (p : List ℕ) wher
   unfolding Acts
   packet x a e f h = at-part Packet a p e (subst (λ (y : List ℕ). Steps r k y a) f h, refl)
 
-  pub opened : (t140 red : ℕ) (a : Acted) → q ≡ Opened t140 red → Opens k t140 red a → Acts q size r k p a p
+  pub opened : (t140 red : ℕ) (a : Acted) → q ≡ Opened t140 red → OpensReceiver k t140 red a → Acts q size r k p a p
   unfolding Acts
   opened t140 red a e h = at-part (Opened t140 red) a p e (h, refl)
 
-  pub ended : (d : Due) (p' : List ℕ) → q ≡ Ended → Line (lineOf k) p d p' → Acts q size r k p (record { receiver = r; counts = k; due = d }) p'
+  pub ended : (d : Due) (p' : List ℕ) → q ≡ Ended → PutsLine (lineOf k) p d p' → Acts q size r k p (record { receiver = r; counts = k; due = d }) p'
   unfolding Acts
   ended d p' e h = at-part Ended (record { receiver = r; counts = k; due = d }) p' e (record { receiver = refl; counts = refl; closing = h })
 
-  pub broken : (d : Due) (p' : List ℕ) → q ≡ Broken → Line brokenLine p d p' → Acts q size r k p (record { receiver = r; counts = k; due = d }) p'
+  pub broken : (d : Due) (p' : List ℕ) → q ≡ Broken → PutsLine brokenLine p d p' → Acts q size r k p (record { receiver = r; counts = k; due = d }) p'
   unfolding Acts
   broken d p' e h = at-part Broken (record { receiver = r; counts = k; due = d }) p' e (record { receiver = refl; counts = refl; closing = h })
 

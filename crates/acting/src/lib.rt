@@ -2,7 +2,7 @@
 ghost use mathlib.Core.Path.{_≡_};
 ghost use Rattle.journal_spec.specs.Lines.{brokenLine};
 ghost use Rattle.counts.specs.Counts.{lineOf};
-ghost use Rattle.acting.specs.Acting.{Opens, Steps, Line, Closes, Acts};
+ghost use Rattle.acting.specs.internal.Acting.{OpensReceiver, Steps, PutsLine, Closes, Acts};
 use counts::Counts;
 use due::Due;
 use parts::Part;
@@ -16,7 +16,7 @@ pub struct Acted {
 }
 
 fn open(counts: Counts, t140: u8, red: u8) -> Acted
-    ensures { λ r. ⌜ Opens counts t140 red r ⌝ }
+    ensures { λ r. ⌜ OpensReceiver counts t140 red r ⌝ }
 {
     let opening = Receiver::open(t140, red);
     let receiver = opening.receiver;
@@ -45,7 +45,7 @@ fn step(receiver: Receiver, counts: Counts, packet: &[u8]) -> Acted
 
 // The line of a broken journal is due.
 pub fn break_off(packet: &mut [u8]) -> Due
-    ensures { λ r. ⌜ Line brokenLine (now (packet .entry)) r (now (packet .exit)) ⌝ }
+    ensures { λ r. ⌜ PutsLine brokenLine (now (packet .entry)) r (now (packet .exit)) ⌝ }
 {
     let to = closing::put_broken(packet);
     Due::line(to)
@@ -53,7 +53,7 @@ pub fn break_off(packet: &mut [u8]) -> Due
 
 // The line of counts is due.
 fn finish(counts: Counts, packet: &mut [u8]) -> Due
-    ensures { λ r. ⌜ Line (lineOf counts) (now (packet .entry)) r (now (packet .exit)) ⌝ }
+    ensures { λ r. ⌜ PutsLine (lineOf counts) (now (packet .entry)) r (now (packet .exit)) ⌝ }
 {
     let to = closing::put_counts(
         counts.packets,

@@ -8,7 +8,7 @@ use lib.Seq.{slice}
 use borrow.Author.Tests.{lt-ltb, le-ltb}
 use Rattle.packet_spec.specs.Limits.{level}
 use Rattle.packet_spec.specs.Redundancy.{heads, bad, headers}
-use Rattle.block_headers.specs.Seen.{headsWithin}
+use Rattle.block_headers.specs.internal.Seen.{headsWithin}
 
 module _ (plain : Bool) (t140 : ℕ) (p : List ℕ) (from end : ℕ) where
   pub crossed : end < from → headsWithin plain t140 p from end ≡ bad 17

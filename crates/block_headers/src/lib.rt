@@ -7,7 +7,7 @@ ghost use lib.Seq.{slice};
 ghost use Rattle.packet_spec.specs.Limits.{level};
 ghost use Rattle.packet_spec.specs.Redundancy as Heads;
 ghost use Rattle.packet.specs.Refusal.{number};
-ghost use Rattle.block_headers.specs.Seen.{seenHead, seen, refusedHeads, seenBefore, headersOf};
+ghost use Rattle.block_headers.specs.internal.Seen.{seenHead, headersSeen, refusedHeads, seenBefore, headersOf};
 use packet::Outcome;
 use packet::Packet;
 use packet::Refusal;
@@ -41,7 +41,7 @@ fn head_at(packet: &[u8], at: usize, end: usize) -> Head
 }
 
 fn refused(refusal: Refusal) -> Headers
-    ensures { λ r. ⌜ seen r ≡ refusedHeads (number refusal) ⌝ }
+    ensures { λ r. ⌜ headersSeen r ≡ refusedHeads (number refusal) ⌝ }
 {
     let none = Head { offset: 0, len: 0 };
     Headers {
@@ -55,7 +55,7 @@ fn refused(refusal: Refusal) -> Headers
 // Of a redundant payload.
 fn read_headers(t140: u8, packet: &[u8], from: usize, end: usize) -> Headers
     requires { ⌜ (from ≤ end) × (end ≤ length (now packet)) ⌝ }
-    ensures { λ r. ⌜ seen r ≡ seenBefore end (Heads.headers t140 level [] (slice from end (now (packet .entry)))) ⌝ }
+    ensures { λ r. ⌜ headersSeen r ≡ seenBefore end (Heads.headers t140 level [] (slice from end (now (packet .entry)))) ⌝ }
 {
     let none = Head { offset: 0, len: 0 };
     let mut heads = [none; Packet::LEVEL];
@@ -95,7 +95,7 @@ fn read_headers(t140: u8, packet: &[u8], from: usize, end: usize) -> Headers
 
 // Reads the headers of the payload that lies from `from` up to `end`; there are none before a plain one.
 pub fn read(plain: bool, t140: u8, packet: &[u8], from: usize, end: usize) -> Headers
-    ensures { λ r. ⌜ seen r ≡ headersOf plain t140 (now (packet .entry)) from end ⌝ }
+    ensures { λ r. ⌜ headersSeen r ≡ headersOf plain t140 (now (packet .entry)) from end ⌝ }
 {
     if end < from {
         return refused(Refusal::BlockHeaders);

@@ -12,8 +12,8 @@ use borrow.Author.Tests.{lt-ltb, le-ltb}
 use Rattle.packet.specs.declared.Older.{Older}
 use Rattle.packet_spec.specs.Redundancy.{Head, total, olderOf, blocksOf, allText, areText}
 use Rattle.text_spec.specs.Utf8.{isText}
-use Rattle.block_headers.specs.Seen.{seenHead, noHead}
-use Rattle.blocks.specs.Placing.{headPlaces}
+use Rattle.block_headers.specs.internal.Seen.{seenHead, noHead}
+use Rattle.blocks.specs.internal.Placing.{headPlaces}
 use Rattle.base.proofs.Slices.{take-slice, drop-slice}
 
 pub total-snoc : (hs : List Head) (h : Head) → total (hs ++ (h ∷ [])) ≡ total hs + h .len

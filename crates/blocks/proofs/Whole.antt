@@ -10,19 +10,19 @@ use Rattle.base.specs.Arrays.{filled}
 use Rattle.packet_spec.specs.Limits.{level}
 use Rattle.packet_spec.specs.Redundancy.{Head, Heads, heads, headers, total, areText}
 use Rattle.packet.specs.Places.{none}
-use Rattle.block_headers.specs.Seen.{headsWithin}
-use Rattle.blocks.specs.Placing.{headPlaces}
-use Rattle.blocks.specs.Seen.{refusedBlocks, placedBlocks, seenBehind, blocksOf}
+use Rattle.block_headers.specs.internal.Seen.{headsWithin}
+use Rattle.blocks.specs.internal.Placing.{headPlaces}
+use Rattle.blocks.specs.internal.Seen.{refusedBlocks, placedBlocks, seenBehind, blocksSeenAt}
 use Rattle.packet_spec.proofs.Order.{past-21}
 use Rattle.block_headers.proofs.Within as Within
 
 module _ (plain : Bool) (t140 : ℕ) (p : List ℕ) (from end : ℕ) where
-  pub behind : (h : Heads) → headsWithin plain t140 p from end ≡ h → blocksOf plain t140 p from end ≡ seenBehind end h
-  unfolding blocksOf
+  pub behind : (h : Heads) → headsWithin plain t140 p from end ≡ h → blocksSeenAt plain t140 p from end ≡ seenBehind end h
+  unfolding blocksSeenAt
   behind h e = ap (seenBehind end) e
 
   pub inside : from ≤ end → end ≤ length p
-      → blocksOf plain t140 p from end ≡ seenBehind end (cond plain (heads [] (slice from end p)) (headers t140 level [] (slice from end p)))
+      → blocksSeenAt plain t140 p from end ≡ seenBehind end (cond plain (heads [] (slice from end p)) (headers t140 level [] (slice from end p)))
   inside h k = behind (cond plain (heads [] (slice from end p)) (headers t140 level [] (slice from end p))) (Within.inside plain t140 p from end h k)
 
 -- blocks that fit and are text, from the place where the first lies

@@ -8,8 +8,8 @@ ghost use lib.Seq.{slice};
 ghost use Rattle.packet_spec.specs.Limits.{level};
 ghost use Rattle.packet_spec.specs.Redundancy as Heads;
 ghost use Rattle.packet.specs.Refusal.{number};
-ghost use Rattle.block_headers.specs.Seen.{seenHeads};
-ghost use Rattle.blocks.specs.Seen.{seen, refusedBlocks, seenBehind, blocksOf};
+ghost use Rattle.block_headers.specs.internal.Seen.{seenHeads};
+ghost use Rattle.blocks.specs.internal.Seen.{blocksSeen, refusedBlocks, seenBehind, blocksSeenAt};
 use block_headers::Head;
 use packet::Older;
 use packet::Outcome;
@@ -25,7 +25,7 @@ pub struct Blocks {
 }
 
 fn refused(refusal: Refusal) -> Blocks
-    ensures { λ r. ⌜ seen r ≡ refusedBlocks (number refusal) ⌝ }
+    ensures { λ r. ⌜ blocksSeen r ≡ refusedBlocks (number refusal) ⌝ }
 {
     let none = Older {
         offset: 0,
@@ -49,7 +49,7 @@ fn read_blocks(
     end: usize,
 ) -> Blocks
     requires { ⌜ (count ≤ level) × (first ≤ end) × (end ≤ length (now packet)) ⌝ }
-    ensures { λ r. ⌜ seen r ≡ seenBehind end (Heads.heads (seenHeads count heads) (slice first end (now (packet .entry)))) ⌝ }
+    ensures { λ r. ⌜ blocksSeen r ≡ seenBehind end (Heads.heads (seenHeads count heads) (slice first end (now (packet .entry)))) ⌝ }
 {
     let placed = placing::place(first, count, heads);
     let primary = placed.primary;
@@ -64,7 +64,7 @@ fn read_blocks(
 
 // Reads the blocks of the payload that lies from `from` up to `end`.
 pub fn read(plain: bool, t140: u8, packet: &[u8], from: usize, end: usize) -> Blocks
-    ensures { λ r. ⌜ seen r ≡ blocksOf plain t140 (now (packet .entry)) from end ⌝ }
+    ensures { λ r. ⌜ blocksSeen r ≡ blocksSeenAt plain t140 (now (packet .entry)) from end ⌝ }
 {
     let headers = block_headers::read(plain, t140, packet, from, end);
     let outcome = headers.outcome;

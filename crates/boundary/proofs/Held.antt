@@ -9,24 +9,24 @@ use Rattle.delivery.specs.Course.{courseOf, late, forward, Course, distance}
 use Rattle.receiver_spec.specs.State.{Receiver, sourceExpected}
 use Rattle.receiver_spec.specs.Step.{stepRead, firstStep, stepBy, stepOf}
 use Rattle.boundary.specs.declared.ReceiverRecord.{ReceiverRecord}
-use Rattle.boundary.specs.Receiving.{bit, heldIn, recordOf, recordBehind}
+use Rattle.boundary.specs.Receiving.{bit, heldIn, lentRecord, receiverBehind}
 use Rattle.base.specs.Flags.{isSet}
 
 flag-bit : (b : Bool) → isSet (bit b) ≡ b
 flag-bit true = refl
 flag-bit false = refl
 
-pub held-record : (r : Receiver) → heldIn (recordOf r) ≡ r
+pub held-record : (r : Receiver) → heldIn (lentRecord r) ≡ r
 held-record r = λ i. record { t140 = r .t140; red = r .red; hasSource = flag-bit (r .hasSource) i; source = r .source; expected = r .expected }
 
-pub held-step : (before : ReceiverRecord) (p : List ℕ) → heldIn (recordBehind (stepOf (heldIn before) p) before) ≡ stepOf (heldIn before) p .receiver
+pub held-step : (before : ReceiverRecord) (p : List ℕ) → heldIn (receiverBehind (stepOf (heldIn before) p) before) ≡ stepOf (heldIn before) p .receiver
 unfolding stepOf
 held-step before p = go (reading level (sourceExpected r) (r .t140) (r .red) p)
   where
     r : Receiver
     r = heldIn before
 
-    go : (x : Read) → heldIn (recordBehind (stepRead (heldIn before) p x) before) ≡ stepRead (heldIn before) p x .receiver
+    go : (x : Read) → heldIn (receiverBehind (stepRead (heldIn before) p x) before) ≡ stepRead (heldIn before) p x .receiver
     go (refused n) = refl
     go (holds c) = by (r .hasSource) (courseOf d)
       where
@@ -34,7 +34,7 @@ held-step before p = go (reading level (sourceExpected r) (r .t140) (r .red) p)
         d = distance (c .sequence) (r .expected)
 
         by : (h : Bool) (v : Course)
-            → heldIn (recordBehind (cond h (stepBy v (heldIn before) p c (distance (c .sequence) (heldIn before .expected))) (firstStep (heldIn before) p c)) before)
+            → heldIn (receiverBehind (cond h (stepBy v (heldIn before) p c (distance (c .sequence) (heldIn before .expected))) (firstStep (heldIn before) p c)) before)
             ≡ cond h (stepBy v (heldIn before) p c (distance (c .sequence) (heldIn before .expected))) (firstStep (heldIn before) p c) .receiver
         by true forward = refl
         by true late = refl

@@ -5,14 +5,14 @@ use lib.Dec.{eqb}
 use Rattle.text_spec.specs.Utf8.{Text, Characters, Stops}
 use Rattle.packet_spec.specs.Header.{Expected, Any, Only}
 use Rattle.packet.specs.declared.Packet.{Packet}
-use Rattle.packet.specs.Places.{Numbered}
+use Rattle.packet.specs.Places.{ReadResult}
 use Rattle.boundary.specs.declared.TextAnswer.{TextAnswer}
 
 abbrev pub expectedOf : ℕ → ℕ → Expected
 expectedOf expects source = cond (eqb expects 0) Any (Only source)
 
 -- an accepted packet is stored over what was there; a refused one leaves it
-abbrev pub packetBehind : Numbered → Packet → Packet
+abbrev pub packetBehind : ReadResult → Packet → Packet
 packetBehind n before = cond (eqb (n .number) 0) (n .packet) before
 
 abbrev pub textAnswer : Text → TextAnswer

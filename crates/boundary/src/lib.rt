@@ -3,11 +3,11 @@
 ghost use mathlib.Core.Path.{_≡_};
 ghost use Rattle.text_spec.specs.Utf8.{textOf};
 ghost use Rattle.packet.specs.Refusal.{outcomeNumber};
-ghost use Rattle.packet.specs.Places.{sourceOf};
+ghost use Rattle.packet.specs.Places.{expectedSource};
 ghost use Rattle.receiver_spec.specs.Step.{stepOf};
-ghost use Rattle.receiver.specs.View.{receiverOf, answered, advanced};
+ghost use Rattle.receiver.specs.View.{receiverOf, stepAnswer, advanced};
 ghost use Rattle.boundary.specs.Answers.{expectedOf, textAnswer};
-ghost use Rattle.boundary.specs.Receiving.{bit, heldIn, recordOf, stepNumber, stepRecord};
+ghost use Rattle.boundary.specs.Receiving.{bit, heldIn, lentRecord, stepNumber, stepRecord};
 ghost use Rattle.receiver_spec.specs.Kinds.{wasRefused, wasLate};
 use packet::Expected;
 use packet::Outcome;
@@ -28,7 +28,7 @@ pub fn number_of(outcome: Outcome) -> u8
 
 // The source that a packet must have: any where `expects` is 0, else `source`.
 pub fn expected_of(expects: u8, source: u32) -> Expected
-    ensures { λ r. ⌜ sourceOf r ≡ expectedOf expects source ⌝ }
+    ensures { λ r. ⌜ expectedSource r ≡ expectedOf expects source ⌝ }
 {
     if expects == 0 {
         return Expected::Any;
@@ -95,7 +95,7 @@ pub fn receiver_of(lent: ReceiverRecord) -> Receiver
 }
 
 pub fn record_of(receiver: Receiver) -> ReceiverRecord
-    ensures { λ r. ⌜ r ≡ recordOf (receiverOf receiver) ⌝ }
+    ensures { λ r. ⌜ r ≡ lentRecord (receiverOf receiver) ⌝ }
 {
     let has_source = byte_of(receiver.has_source);
     ReceiverRecord {
@@ -116,7 +116,7 @@ pub fn advance(lent: ReceiverRecord, packet: &[u8]) -> Advanced
 }
 
 pub fn is_refused(answer: Answer) -> bool
-    ensures { λ r. ⌜ r ≡ wasRefused (answered answer) ⌝ }
+    ensures { λ r. ⌜ r ≡ wasRefused (stepAnswer answer) ⌝ }
 {
     match answer {
         Answer::Refused(_) => true,
@@ -133,7 +133,7 @@ pub fn is_refused(answer: Answer) -> bool
 }
 
 pub fn is_late(answer: Answer) -> bool
-    ensures { λ r. ⌜ r ≡ wasLate (answered answer) ⌝ }
+    ensures { λ r. ⌜ r ≡ wasLate (stepAnswer answer) ⌝ }
 {
     match answer {
         Answer::Refused(_) => false,
@@ -163,7 +163,7 @@ pub struct Step {
 }
 
 pub fn step_of(answer: Answer) -> Step
-    ensures { λ r. ⌜ r ≡ stepRecord (answered answer) ⌝ }
+    ensures { λ r. ⌜ r ≡ stepRecord (stepAnswer answer) ⌝ }
 {
     match answer {
         Answer::Refused(_) => Step {
@@ -205,7 +205,7 @@ pub fn step_of(answer: Answer) -> Step
 
 // 0 where the packet is accepted, late or not.
 pub fn number_of_step(answer: Answer) -> u8
-    ensures { λ r. ⌜ r ≡ stepNumber (answered answer) ⌝ }
+    ensures { λ r. ⌜ r ≡ stepNumber (stepAnswer answer) ⌝ }
 {
     match answer {
         Answer::Refused(refusal) => refusal.number(),

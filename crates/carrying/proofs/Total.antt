@@ -5,7 +5,7 @@ use native.Mathlib.Nat.{not-suc-le-zero, le-of-suc-le-suc}
 use native.Mathlib.Omega.{arith}
 use lib.ListN.{length, take, getD}
 use Rattle.sender_spec.specs.Limits.{roomSize}
-use Rattle.carrying.specs.Young.{textTotal}
+use Rattle.carrying.specs.internal.Young.{textTotal}
 
 -- one text more
 pub total-more : (lens : List ℕ) (i : ℕ) → i < length lens → textTotal (take (suc i) lens) ≡ textTotal (take i lens) + min (getD lens i 0) roomSize

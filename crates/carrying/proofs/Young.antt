@@ -11,7 +11,7 @@ use lib.Seq.{drop-cons, getD-take}
 use borrow.Author.Tests.{leb-true}
 use Rattle.base.proofs.Tests.{by-test, and-left, and-right}
 use Rattle.delivery.specs.Run.{oldestAge}
-use Rattle.carrying.specs.Young.{young, youngRun}
+use Rattle.carrying.specs.internal.Young.{young, youngRun}
 
 young-true : (t at : ℕ) → young t at ≡ true → (at ≤ t) × (t - at ≤ oldestAge)
 young-true t at e =

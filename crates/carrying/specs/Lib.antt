@@ -1,1 +1,1 @@
-pub mod Young
+pub mod internal

@@ -4,7 +4,7 @@ ghost use Prim.Native.Nat.{_*_, _≤_};
 ghost use lib.ListN.{take};
 ghost use Rattle.packet_spec.specs.Limits.{level};
 ghost use Rattle.sender_spec.specs.Limits.{roomSize};
-ghost use Rattle.carrying.specs.Young.{young, youngRun, textTotal};
+ghost use Rattle.carrying.specs.internal.Young.{young, youngRun, textTotal};
 use packet::Packet;
 
 // The limits of a block that is written.

@@ -10,12 +10,12 @@ use Rattle.base.proofs.Tests.{both, and-left, and-right}
 use Rattle.packet.specs.declared.Refusal.{Refusal}
 use Rattle.receiver.specs.declared.Answer.{Answer}
 use Rattle.receiver.specs.declared.Answer.the-variants.{Refused, Late, Forward}
-use Rattle.receiver.specs.View.{answered}
-use Rattle.receiver_spec.specs.Answers.{gives, isLate, refuses, Answered}
+use Rattle.receiver.specs.View.{stepAnswer}
+use Rattle.receiver_spec.specs.Answers.{gives, isLate, refuses, StepAnswer}
 use Rattle.receiver_spec.specs.Record.{lossOf}
 use Rattle.journal_spec.specs.Contents.{limit}
 use Rattle.counts.specs.declared.Counts.{Counts}
-use Rattle.counts.specs.Counts.{noCounts, counted, wrapped, countsFit, OneMore, Counting}
+use Rattle.counts.specs.Counts.{noCounts, counted, wrapped64, countsFit, OneMore, Counting}
 
 limit-is : limit ≡ 1099511627776
 unfolding limit
@@ -75,7 +75,7 @@ module _ (k : Counts) (left used : ℕ) (h : countsFit k left ≡ true) (u : use
 -- an answer was counted, and nothing wraps
 module _ (k : Counts) (left : ℕ) (m : OneMore k left) where
   abbrev Kept : Counts → Type 0
-  Kept c = (wrapped c ≡ c) × (countsFit c left ≡ true)
+  Kept c = (wrapped64 c ≡ c) × (countsFit c left ≡ true)
 
   kept : (c : Counts) → Fit c left → Kept c
   kept c f =
@@ -89,30 +89,30 @@ module _ (k : Counts) (left : ℕ) (m : OneMore k left) where
         holds c left f,
       )
 
-  pub counted-fits : (a : Answered) → lossOf a < 65536 → Kept (counted a k)
+  pub counted-fits : (a : StepAnswer) → lossOf a < 65536 → Kept (counted a k)
   counted-fits (refuses n) h = kept _ record { short = omega (arith, m .packets); packets = omega (arith, m .packets); late = omega (arith, m .late); refused = omega (arith, m .refused); lost = omega (arith, m .lost) }
   counted-fits (isLate z) h = kept _ record { short = omega (arith, m .packets); packets = omega (arith, m .packets); late = omega (arith, m .late); refused = omega (arith, m .refused); lost = omega (arith, m .lost) }
   counted-fits (gives g) h = kept _ record { short = omega (arith, m .packets); packets = omega (arith, m .packets); late = omega (arith, m .late); refused = omega (arith, m .refused); lost = omega (arith, m .lost) }
 
 module _ (k r : Counts) (x : Answer) where
-  counting : lossOf (answered x) < 65536 → r ≡ wrapped (counted (answered x) k) → (r ≡ wrapped (counted (answered x) k)) × Counting (answered x) k r
+  counting : lossOf (stepAnswer x) < 65536 → r ≡ wrapped64 (counted (stepAnswer x) k) → (r ≡ wrapped64 (counted (stepAnswer x) k)) × Counting (stepAnswer x) k r
   counting h e = (e, then)
     where
-      then : Counting (answered x) k r
+      then : Counting (stepAnswer x) k r
       then left m =
-          let w = counted-fits k left m (answered x) h in
-          let f : r ≡ counted (answered x) k = e ∙ w .0 in
+          let w = counted-fits k left m (stepAnswer x) h in
+          let f : r ≡ counted (stepAnswer x) k = e ∙ w .0 in
           (f, rw f (w .1))
 
-  pub refused-counted : (n : Refusal) → x ≡ Refused n → r ≡ wrapped (counted (refuses 0) k)
-      → (r ≡ wrapped (counted (answered x) k)) × Counting (answered x) k r
+  pub refused-counted : (n : Refusal) → x ≡ Refused n → r ≡ wrapped64 (counted (refuses 0) k)
+      → (r ≡ wrapped64 (counted (stepAnswer x) k)) × Counting (stepAnswer x) k r
   refused-counted n q e = counting (rw q (omega arith)) (rw q e)
 
-  pub late-counted : (z : ℤ) → x ≡ Late z → r ≡ wrapped (counted (isLate z) k)
-      → (r ≡ wrapped (counted (answered x) k)) × Counting (answered x) k r
+  pub late-counted : (z : ℤ) → x ≡ Late z → r ≡ wrapped64 (counted (isLate z) k)
+      → (r ≡ wrapped64 (counted (stepAnswer x) k)) × Counting (stepAnswer x) k r
   late-counted z q e = counting (rw q (omega arith)) (rw q e)
 
   pub forward-counted : (n : ℕ) (z : ℤ) (o g f t : ℕ) → n < 65536 → x ≡ Forward n z o g f t
-      → r ≡ wrapped (counted (gives record { loss = n; distance = z; older = o; given = g; from = f; to = t }) k)
-      → (r ≡ wrapped (counted (answered x) k)) × Counting (answered x) k r
+      → r ≡ wrapped64 (counted (gives record { loss = n; distance = z; older = o; given = g; from = f; to = t }) k)
+      → (r ≡ wrapped64 (counted (stepAnswer x) k)) × Counting (stepAnswer x) k r
   forward-counted n z o g f t h q e = counting (rw q h) (rw q e)

@@ -8,20 +8,20 @@ use lib.Dec.{ltb, eqb}
 use lib.ListN.{length, take, drop}
 use Rattle.counts.specs.declared.Counts.{Counts}
 use Rattle.packet_spec.specs.Header.{typesBad}
-use Rattle.receiver_spec.specs.Opening.{openingOf}
+use Rattle.receiver_spec.specs.Opening.{openReceiver}
 use Rattle.receiver_spec.specs.State.{zeroReceiver, Receiver}
 use Rattle.receiver_spec.specs.Step.{stepOf}
-use Rattle.receiver_spec.specs.Answers.{gives, isLate, refuses, Answered}
+use Rattle.receiver_spec.specs.Answers.{gives, isLate, refuses, StepAnswer}
 use Rattle.receiver_spec.specs.Kinds.{wasForward, wasLate, wasRefused}
 use Rattle.journal_spec.specs.Records.{Record, ending, opening, beginning, piece, time, bad, recordsOf}
-use Rattle.journal_spec.specs.Contents.{Contents, opens, packet, ends, breaks, unopened, between, within, zeros, longestPacket, contentsOf, limit, journalOf}
+use Rattle.journal_spec.specs.Contents.{Contents, opens, packet, ends, breaks, unopened, between, within, areZeros, longestPacket, contentsOf, limit, journalOf}
 use Rattle.journal_spec.specs.Lines.{countsLine, brokenLine}
-use Rattle.journal_spec.specs.Transcript.{packetsIn, isWhole, answersOf, printedOf, textOf, howMany, lostIn, printed, transcript}
+use Rattle.journal_spec.specs.Transcript.{packetsIn, isWhole, answersOf, printedOf, printedText, howMany, lostIn, printed, transcript}
 use Rattle.counts.specs.Counts.{noCounts, counted, lineOf}
 
 -- what is printed of the contents still to come
 unfoldable pub told : Receiver → Counts → Contents → List ℕ
-told r k (opens t140 red c) = told (openingOf t140 red .receiver) k c
+told r k (opens t140 red c) = told (openReceiver t140 red .receiver) k c
 told r k (packet p c) = printedOf p (stepOf r p .answer) ++ told (stepOf r p .receiver) (counted (stepOf r p .answer) k) c
 told r k ends = lineOf k
 told r k breaks = brokenLine
@@ -54,7 +54,7 @@ no-opens (beginning m ∷ rs) = (go (ltb longestPacket m) (eqb m 0) (no-opens rs
     go true y f = tt
     go false true f = f .0
     go false false f = f .1 m []
-no-opens (piece x ∷ rs) = (tt, λ n ps. go n (ps ++ x) (ltb (length (ps ++ x)) n) (zeros (drop n (ps ++ x))) (no-opens rs))
+no-opens (piece x ∷ rs) = (tt, λ n ps. go n (ps ++ x) (ltb (length (ps ++ x)) n) (areZeros (drop n (ps ++ x))) (no-opens rs))
   where
     go : (n : ℕ) (qs : List ℕ) (x y : Bool) → NoOpens (contentsOf between rs) × ((n : ℕ) (ps : List ℕ) → NoOpens (contentsOf (within n ps) rs))
         → NoOpens (cond x (contentsOf (within n qs) rs) (cond y (packet (take n qs) (contentsOf between rs)) breaks))
@@ -77,21 +77,21 @@ opens-first (opening t140 red ∷ rs) = go (typesBad t140 red)
     go false = no-opens rs .0
 
 -- the counts over a list of answers, on top of those so far
-abbrev lineWith : Counts → List Answered → List ℕ
+abbrev lineWith : Counts → List StepAnswer → List ℕ
 lineWith k answers =
     countsLine (k .packets + howMany wasForward answers) (k .late + howMany wasLate answers) (k .lost + lostIn answers) (k .refused + howMany wasRefused answers)
 
 same-line : {a a' b b' c c' d d' : ℕ} → a ≡ a' → b ≡ b' → c ≡ c' → d ≡ d' → countsLine a b c d ≡ countsLine a' b' c' d'
 same-line p q r s = λ i. countsLine (p i) (q i) (r i) (s i)
 
-count-one : (k : Counts) (a : Answered) (answers : List Answered) → lineWith (counted a k) answers ≡ lineWith k (a ∷ answers)
+count-one : (k : Counts) (a : StepAnswer) (answers : List StepAnswer) → lineWith (counted a k) answers ≡ lineWith k (a ∷ answers)
 count-one k (refuses n) answers = same-line (omega arith) (omega arith) (omega arith) (omega arith)
 count-one k (isLate z) answers = same-line (omega arith) (omega arith) (omega arith) (omega arith)
 count-one k (gives g) answers = same-line (omega arith) (omega arith) (omega arith) (omega arith)
 
 -- the text, and the line that closes it
 abbrev printedWith : Receiver → Counts → Contents → List ℕ
-printedWith r k c = textOf r (packetsIn c) ++ cond (isWhole c) (lineWith k (answersOf r (packetsIn c))) brokenLine
+printedWith r k c = printedText r (packetsIn c) ++ cond (isWhole c) (lineWith k (answersOf r (packetsIn c))) brokenLine
 
 told-packets : (c : Contents) → NoOpens c → (r : Receiver) (k : Counts) → told r k c ≡ printedWith r k c
 unfolding told lineOf
@@ -99,9 +99,9 @@ told-packets (opens t140 red c) h r k = absurd h
 told-packets (packet p c) h r k =
     let s = stepOf r p in
     ap (λ (l : List ℕ). printedOf p (s .answer) ++ l) (told-packets c h (s .receiver) (counted (s .answer) k))
-    ∙ ap (λ (l : List ℕ). printedOf p (s .answer) ++ (textOf (s .receiver) (packetsIn c) ++ cond (isWhole c) l brokenLine))
+    ∙ ap (λ (l : List ℕ). printedOf p (s .answer) ++ (printedText (s .receiver) (packetsIn c) ++ cond (isWhole c) l brokenLine))
     (count-one k (s .answer) (answersOf (s .receiver) (packetsIn c)))
-    ∙ sym (append-assoc (printedOf p (s .answer)) (textOf (s .receiver) (packetsIn c))
+    ∙ sym (append-assoc (printedOf p (s .answer)) (printedText (s .receiver) (packetsIn c))
     (cond (isWhole c) (lineWith k (s .answer ∷ answersOf (s .receiver) (packetsIn c))) brokenLine))
 told-packets ends h r k = same-line (omega arith) (omega arith) (omega arith) (omega arith)
 told-packets breaks h r k = refl
@@ -109,8 +109,8 @@ told-packets breaks h r k = refl
 told-first : (c : Contents) → OpensFirst c → told zeroReceiver noCounts c ≡ printed c
 unfolding told
 told-first (opens t140 red c) h =
-    told-packets c h (openingOf t140 red .receiver) noCounts
-    ∙ ap (λ (l : List ℕ). textOf (openingOf t140 red .receiver) (packetsIn c) ++ cond (isWhole c) l brokenLine)
+    told-packets c h (openReceiver t140 red .receiver) noCounts
+    ∙ ap (λ (l : List ℕ). printedText (openReceiver t140 red .receiver) (packetsIn c) ++ cond (isWhole c) l brokenLine)
     (same-line (omega arith) (omega arith) (omega arith) (omega arith))
 told-first (packet p c) h = absurd h
 told-first ends h = absurd h

@@ -5,21 +5,21 @@ use mathlib.Core.Bool.{Bool, true, _&&_}
 use mathlib.Core.List.{List}
 use lib.Dec.{leb}
 use Rattle.counts.specs.declared.Counts.{Counts}
-use Rattle.receiver_spec.specs.Answers.{gives, isLate, refuses, Answered}
+use Rattle.receiver_spec.specs.Answers.{gives, isLate, refuses, StepAnswer}
 use Rattle.journal_spec.specs.Contents.{limit}
 use Rattle.journal_spec.specs.Lines.{countsLine}
 
 abbrev pub noCounts : Counts
 noCounts = record { packets = 0; late = 0; lost = 0; refused = 0 }
 
-abbrev pub counted : Answered → Counts → Counts
+abbrev pub counted : StepAnswer → Counts → Counts
 counted (refuses n) c = record { packets = c .packets; late = c .late; lost = c .lost; refused = c .refused + 1 }
 counted (isLate z) c = record { packets = c .packets; late = c .late + 1; lost = c .lost; refused = c .refused }
 counted (gives g) c = record { packets = c .packets + 1; late = c .late; lost = c .lost + g .loss; refused = c .refused }
 
 -- as numbers of 64 bits
-abbrev pub wrapped : Counts → Counts
-wrapped c = record {
+abbrev pub wrapped64 : Counts → Counts
+wrapped64 c = record {
   packets = c .packets % 18446744073709551616;
   late = c .late % 18446744073709551616;
   lost = c .lost % 18446744073709551616;
@@ -40,7 +40,7 @@ pub record OneMore (c : Counts) (left : ℕ) : Type 0 where
   pub lost : c .lost + 65535 ≤ 65535 * (limit - left)
 
 -- an answer took c to c': nothing wraps where one packet more can be counted
-abbrev pub Counting : Answered → Counts → Counts → Type 0
+abbrev pub Counting : StepAnswer → Counts → Counts → Type 0
 Counting a c c' = (left : ℕ) → OneMore c left → (c' ≡ counted a c) × (countsFit c' left ≡ true)
 
 unfoldable pub lineOf : Counts → List ℕ

@@ -1,7 +1,7 @@
 // What a transcript's last line counts.
 ghost use mathlib.Core.Path.{_≡_};
-ghost use Rattle.receiver.specs.View.{answered};
-ghost use Rattle.counts.specs.Counts.{noCounts, counted, wrapped, countsFit, Counting};
+ghost use Rattle.receiver.specs.View.{stepAnswer};
+ghost use Rattle.counts.specs.Counts.{noCounts, counted, wrapped64, countsFit, Counting};
 use receiver::Answer;
 
 // Of the packets read: those neither late nor refused, those late, the blocks lost, and those refused.
@@ -31,8 +31,8 @@ impl Counts {
 
     // One answer more.
     pub fn with(self, answer: Answer) -> Counts
-        ensures { λ r. ⌜ r ≡ wrapped (counted (answered answer) self) ⌝ }
-        ensures { λ r. ⌜ Counting (answered answer) self r ⌝ }
+        ensures { λ r. ⌜ r ≡ wrapped64 (counted (stepAnswer answer) self) ⌝ }
+        ensures { λ r. ⌜ Counting (stepAnswer answer) self r ⌝ }
     {
         let mut more = self;
         match answer {

@@ -8,9 +8,9 @@ use native.Mathlib.Omega.{arith}
 use lib.Dec.{leb, ltb}
 use borrow.Author.Tests.{leb-true, leb-false, ltb-true, ltb-false, lt-ltb, le-ltb, le-leb, lt-leb}
 use Rattle.delivery.specs.Record.{mark, block}
-use Rattle.delivery.specs.Sending.{Sender, carries}
-use Rattle.delivery.specs.Claim.{newestOf, above, carried, entry}
-use Rattle.delivery.specs.Core.{InOrder}
+use Rattle.delivery.specs.Sending.{BlockSender, carries}
+use Rattle.delivery.specs.Claim.{newestOf, above, anyCarries, entry}
+use Rattle.delivery.specs.internal.Core.{InOrder}
 
 -- what rises from each packet to the next rises over all
 module _ (f : ℕ → ℕ) (rises : (k : ℕ) → f k ≤ f (suc k)) where
@@ -23,7 +23,7 @@ module _ (f : ℕ → ℕ) (rises : (k : ℕ) → f k ≤ f (suc k)) where
       let sum : n + (k - n) ≡ k = omega arith in
       rw sum at (rises-added n (k - n))
 
-module _ (S : Sender) where
+module _ (S : BlockSender) where
   pub newest-le : (n : ℕ) (ks : List ℕ) → n ≤ newestOf S n ks
   newest-le n [] = le-refl n
   newest-le n (k ∷ ks) = omega (arith, newest-le (max n (S .newest k)) ks)
@@ -67,18 +67,18 @@ module _ (S : Sender) where
             rises-over (S .oldest) (ordered .oldest-rises) i k (omega arith)
 
     -- a mark stays a mark: what packet i did not reach back to, no packet with a newer block carries
-    lost-stays : (i j : ℕ) (ks : List ℕ) → j < S .oldest i → carried S (above S (S .newest i) ks) j ≡ false
+    lost-stays : (i j : ℕ) (ks : List ℕ) → j < S .oldest i → anyCarries S (above S (S .newest i) ks) j ≡ false
     lost-stays i j [] h = refl
     lost-stays i j (k ∷ ks) h = go (ltb (S .newest i) (S .newest k)) refl (lost-stays i j ks h) (lost-stays k j ks)
       where
-        go : (b : Bool) → ltb (S .newest i) (S .newest k) ≡ b → carried S (above S (S .newest i) ks) j ≡ false
-            → (j < S .oldest k → carried S (above S (S .newest k) ks) j ≡ false)
-            → carried S (above S (S .newest i) (k ∷ ks)) j ≡ false
+        go : (b : Bool) → ltb (S .newest i) (S .newest k) ≡ b → anyCarries S (above S (S .newest i) ks) j ≡ false
+            → (j < S .oldest k → anyCarries S (above S (S .newest k) ks) j ≡ false)
+            → anyCarries S (above S (S .newest i) (k ∷ ks)) j ≡ false
         go true e held moved =
             let l = ltb-true (S .newest i) (S .newest k) e in
             let m = reaches i k l in
-            ap (λ (l : List ℕ). carried S l j) (above-ahead (S .newest i) k ks l) ∙ rw (carries-below k j (omega arith)) (moved (omega arith))
-        go false e held moved = ap (λ (l : List ℕ). carried S l j) (above-behind (S .newest i) k ks (ltb-false (S .newest i) (S .newest k) e)) ∙ held
+            ap (λ (l : List ℕ). anyCarries S l j) (above-ahead (S .newest i) k ks l) ∙ rw (carries-below k j (omega arith)) (moved (omega arith))
+        go false e held moved = ap (λ (l : List ℕ). anyCarries S l j) (above-behind (S .newest i) k ks (ltb-false (S .newest i) (S .newest k) e)) ∙ held
 
     -- the entry of a block before those that packet k carries
     pub entry-lost : (k j : ℕ) (ks : List ℕ) → j < S .oldest k → entry S (k ∷ above S (S .newest k) ks) j ≡ mark

@@ -12,9 +12,9 @@ use borrow.Author.Tests.{ltb-true, ltb-false}
 use Rattle.delivery.specs.Numbers.{mostAhead, mostBehind, wrapped, next}
 use Rattle.delivery.specs.Course.{Course, distance, wanted, loss}
 use Rattle.delivery.specs.Record.{Bytes, Entry, mark, block, lastOf}
-use Rattle.delivery.specs.Sending.{Sender, range}
+use Rattle.delivery.specs.Sending.{BlockSender, range}
 use Rattle.delivery.specs.Claim.{newestOf, NearFrom, above, entry}
-use Rattle.delivery.specs.Core.{Receiver, expects, blocksGiven, addsAt, afterAt, adds, after, recordFrom, sent, InOrder, Delivered}
+use Rattle.delivery.specs.internal.Core.{BlockReceiver, expects, lastBlocks, addsAt, receiverAfterAt, adds, receiverAfter, recordFrom, sent, InOrder, Delivered}
 use Rattle.delivery.proofs.Wrap.{distance-ahead, course-ahead, course-behind}
 use Rattle.delivery.proofs.Ranges.{length-map-range, drop-range, map-range-same, map-range-const, map-range-snoc, map-range-split}
 use Rattle.delivery.proofs.Arrivals.{newest-le, above-ahead, above-behind, entry-carried, entry-lost, entry-later}
@@ -22,7 +22,7 @@ use Rattle.delivery.proofs.Arrivals.{newest-le, above-ahead, above-behi
 joined : {a b c d : List Entry} → a ≡ b → c ≡ d → a ++ c ≡ b ++ d
 joined p q = ap₂ {C = List Entry} (λ x y. x ++ y) p q
 
-module _ (S : Sender) (ordered : InOrder S) where
+module _ (S : BlockSender) (ordered : InOrder S) where
   -- m of the sender's blocks, from block a on
   abbrev blocks : ℕ → ℕ → List Entry
   blocks a m = map (λ j. block (S .block j)) (range a m)
@@ -32,7 +32,7 @@ module _ (S : Sender) (ordered : InOrder S) where
   older-count k = omega (arith, length-map-range (S .block) (S .oldest k) (S .newest k - S .oldest k))
 
   -- the last w of these, and the newest
-  given : (k w : ℕ) → w ≤ length (sent S k .older) → map block (blocksGiven w (sent S k)) ≡ blocks (S .newest k - w) (suc w)
+  given : (k w : ℕ) → w ≤ length (sent S k .older) → map block (lastBlocks w (sent S k)) ≡ blocks (S .newest k - w) (suc w)
   given k w h =
       let r = older-count k in
       let o = ordered .oldest-le k in
@@ -52,7 +52,7 @@ module _ (S : Sender) (ordered : InOrder S) where
       map-range-same (λ j. block (S .block j)) (entry S (k ∷ ks)) a m (λ j l u. sym (entry-carried S k j ks (omega arith) (omega arith)))
 
   -- a receiver for which block n is the newest
-  abbrev at : ℕ → Receiver
+  abbrev at : ℕ → BlockReceiver
   at n = expects (next (wrapped (S .first + n)))
 
   module _ (n k : ℕ) where
@@ -71,16 +71,16 @@ module _ (S : Sender) (ordered : InOrder S) where
         ∙ joined lost (given k w (omega arith) ∙ carried-blocks k (S .newest k - w) (suc w) (above S (S .newest k) ks) (omega arith) (omega arith))
         ∙ map-range-split (entry S (k ∷ above S (S .newest k) ks)) (suc n) (S .newest k - w) marks (suc w) (S .newest k - n) (omega arith) (omega arith)
 
-    after-ahead : n < S .newest k → S .newest k ≤ n + mostAhead → after (at n) (sent S k) ≡ at (S .newest k)
-    after-ahead h near = ap (λ (c : Course). afterAt c (next (wrapped (S .first + n))) (sent S k)) (course-ahead (S .first) n (S .newest k) h near)
+    after-ahead : n < S .newest k → S .newest k ≤ n + mostAhead → receiverAfter (at n) (sent S k) ≡ at (S .newest k)
+    after-ahead h near = ap (λ (c : Course). receiverAfterAt c (next (wrapped (S .first + n))) (sent S k)) (course-ahead (S .first) n (S .newest k) h near)
 
     -- packet k, with no block ahead of block n
     adds-behind : S .newest k ≤ n → n ≤ S .newest k + mostBehind → adds (at n) (sent S k) ≡ []
     adds-behind h near =
         ap (λ (c : Course). addsAt c (distance (sent S k .sequence) (next (wrapped (S .first + n)))) (sent S k)) (course-behind (S .first) n (S .newest k) h near)
 
-    after-behind : S .newest k ≤ n → n ≤ S .newest k + mostBehind → after (at n) (sent S k) ≡ at n
-    after-behind h near = ap (λ (c : Course). afterAt c (next (wrapped (S .first + n))) (sent S k)) (course-behind (S .first) n (S .newest k) h near)
+    after-behind : S .newest k ≤ n → n ≤ S .newest k + mostBehind → receiverAfter (at n) (sent S k) ≡ at n
+    after-behind h near = ap (λ (c : Course). receiverAfterAt c (next (wrapped (S .first + n))) (sent S k)) (course-behind (S .first) n (S .newest k) h near)
 
   -- the entries of blocks after packet k's are those of the packets after it
   later-entries : (k m : ℕ) (ks : List ℕ) → map (entry S ks) (range (suc (S .newest k)) m) ≡ map (entry S (k ∷ ks)) (range (suc (S .newest k)) m)
@@ -102,7 +102,7 @@ module _ (S : Sender) (ordered : InOrder S) where
           let larger : max n (S .newest k) ≡ S .newest k = omega arith in
           let from-k : recordFrom (at (S .newest k)) (map (sent S) ks) ≡ owed (S .newest k) ks = rw larger at rest in
           joined (adds-ahead n k ks ahead (near .0))
-          (ap (λ (s : Receiver). recordFrom s (map (sent S) ks)) (after-ahead n k ahead (near .0))
+          (ap (λ (s : BlockReceiver). recordFrom s (map (sent S) ks)) (after-ahead n k ahead (near .0))
           ∙ from-k
           ∙ later-entries k (newestOf S (S .newest k) ks - S .newest k) (above S (S .newest k) ks))
           ∙ map-range-split (entry S (k ∷ above S (S .newest k) ks)) (suc n) (suc (S .newest k)) (S .newest k - n) (newestOf S (S .newest k) ks - S .newest k) (newestOf S (S .newest k) ks - n) (omega arith) (omega arith)
@@ -112,7 +112,7 @@ module _ (S : Sender) (ordered : InOrder S) where
           let larger : max n (S .newest k) ≡ n = omega arith in
           let from-n : recordFrom (at n) (map (sent S) ks) ≡ owed n ks = rw larger at rest in
           joined (adds-behind n k behind (near .1))
-          (ap (λ (s : Receiver). recordFrom s (map (sent S) ks)) (after-behind n k behind (near .1)) ∙ from-n)
+          (ap (λ (s : BlockReceiver). recordFrom s (map (sent S) ks)) (after-behind n k behind (near .1)) ∙ from-n)
           ∙ sym (ap₂ (λ (l : List ℕ) (m : ℕ). map (entry S l) (range (suc n) (newestOf S m ks - n))) (above-behind S n k ks behind) larger)
 
 pub delivered : Delivered

@@ -10,15 +10,15 @@ use Rattle.packet_spec.specs.Encoding.{Admits}
 use Rattle.delivery.specs.Course.{courseOf, late, forward, Course, distance}
 use Rattle.delivery.specs.Record.{Entry, block}
 use Rattle.delivery.specs.Run.{Rules, senderOf}
-use Rattle.delivery.specs.Core as core
-use Rattle.delivery.specs.Core.{sent}
+use Rattle.delivery.specs.internal.Core as core
+use Rattle.delivery.specs.internal.Core.{sent}
 use Rattle.receiver_spec.specs.State.{freshReceiver, Receiver, readBy, sourceExpected}
 use Rattle.receiver_spec.specs.Step.{firstStep, stepBy, stepRead, stepOf}
 use Rattle.receiver_spec.specs.Record.{entriesOf}
-use Rattle.sender_spec.specs.State.{Settings, Block, Sender, fresh}
+use Rattle.sender_spec.specs.State.{Settings, SentBlock, Sender, freshSender}
 use Rattle.sender_spec.specs.Settings.{settingsNumber}
 use Rattle.demands.specs.Ours.{ours}
-use Rattle.demands.specs.Sending.{Call, Written, primaryOf, writes, after, written}
+use Rattle.demands.specs.Sending.{Call, Written, primarySent, writes, senderAfter, written}
 use Rattle.demands.specs.Demand2.{ReadBack}
 use Rattle.delivery.proofs.NoLoss.{before, adds-own, after-own}
 use Rattle.receiver_spec.proofs.Core.{packetOf, state, step-adds, step-after, keeps-types}
@@ -35,7 +35,7 @@ From x w = w .content .source ≡ x .source
 
 all-from : (x : Settings) (cs : List Call) (s : Sender) → s .settings ≡ x → Every (From x) (written ours s cs)
 all-from x [] s e = tt
-all-from x (c ∷ cs) s e = go (after ours s c) (writes ours s c) (move s c) (all-from x cs (after ours s c))
+all-from x (c ∷ cs) s e = go (senderAfter ours s c) (writes ours s c) (move s c) (all-from x cs (senderAfter ours s c))
   where
     go : (s₁ : Sender) (ws : List Written) → Move s s₁ ws → (s₁ .settings ≡ x → Every (From x) (written ours s₁ cs)) → Every (From x) (ws ++ written ours s₁ cs)
     go s₁ ws still f = f e
@@ -52,13 +52,13 @@ admits-on r p c source e a = go (r .hasSource) (courseOf (distance (c .sequence)
     go true late = a
     go false v = sym e
 
-module _ (x : Settings) (R : ℕ) (small : R ≤ level) (first : ℕ) (f : ℕ → Block) (f-rises : (k : ℕ) → f k .at ≤ f (suc k) .at) where
+module _ (x : Settings) (R : ℕ) (small : R ≤ level) (first : ℕ) (f : ℕ → SentBlock) (f-rises : (k : ℕ) → f k .at ≤ f (suc k) .at) where
   abbrev P : Rules
   P = rules R small first f f-rises
 
   -- a receiver that has accepted the k packets before these
   one-each : (ws : List Written) (k : ℕ) (r : Receiver) → r .t140 ≡ x .t140 → r .red ≡ x .red → Admits (sourceExpected r) (x .source) → state r ≡ before P k
-      → Every (ReadBack ours x) ws → Every (From x) ws → Packets R small first f f-rises k ws → OneEach r (map (λ w. w .packet) ws) (map primaryOf ws)
+      → Every (ReadBack ours x) ws → Every (From x) ws → Packets R small first f f-rises k ws → OneEach r (map (λ w. w .packet) ws) (map primarySent ws)
   unfolding stepOf
   one-each [] k r a b h at back from is = none r
   one-each (w ∷ ws) k r a b h at back from is =
@@ -70,8 +70,8 @@ module _ (x : Settings) (R : ℕ) (small : R ≤ level) (first : ℕ) (f : ℕ �
       let types = keeps-types r p (readBy r p) in
       let on : Admits (sourceExpected r₁) (x .source) = subst (λ (y : Read). Admits (sourceExpected (stepRead r p y .receiver)) (x .source)) (sym q) (admits-on r p c (x .source) (from .0) h) in
       let next : state r₁ ≡ before P (suc k) =
-      ap (λ (y : Read). state (stepRead r p y .receiver)) q ∙ step-after r p c q ∙ ap₂ {C = core.Receiver} core.after at sends ∙ after-own P k in
-      one r p (primaryOf w)
+      ap (λ (y : Read). state (stepRead r p y .receiver)) q ∙ step-after r p c q ∙ ap₂ {C = core.BlockReceiver} core.receiverAfter at sends ∙ after-own P k in
+      one r p (primarySent w)
       (ap (λ (y : Read). entriesOf r p (stepRead r p y .answer)) q
       ∙ step-adds r p c q
       ∙ ap₂ {C = List Entry} core.adds at sends
@@ -81,7 +81,7 @@ module _ (x : Settings) (R : ℕ) (small : R ≤ level) (first : ℕ) (f : ℕ �
 
 -- from a fresh sender on
 pub all-arrive : (x : Settings) (calls : List Call) → settingsNumber x ≡ 0
-    → OneEach (freshReceiver (x .t140) (x .red)) (map (λ w. w .packet) (written ours (fresh x) calls)) (map primaryOf (written ours (fresh x) calls))
+    → OneEach (freshReceiver (x .t140) (x .red)) (map (λ w. w .packet) (written ours (freshSender x) calls)) (map primarySent (written ours (freshSender x) calls))
 all-arrive x calls good =
-    one-each x _ (small x calls good) _ _ (log-rises x calls good) (written ours (fresh x) calls) 0 (freshReceiver (x .t140) (x .red)) refl refl tt refl
-    (good-back x calls (fresh x) refl (fresh-good x)) (all-from x calls (fresh x) refl) (packets x calls good)
+    one-each x _ (small x calls good) _ _ (log-rises x calls good) (written ours (freshSender x) calls) 0 (freshReceiver (x .t140) (x .red)) refl refl tt refl
+    (good-back x calls (freshSender x) refl (fresh-good x)) (all-from x calls (freshSender x) refl) (packets x calls good)

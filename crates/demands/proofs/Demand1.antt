@@ -12,13 +12,13 @@ use Rattle.packet_spec.specs.Header.{typesBad}
 use Rattle.packet_spec.specs.Reading.{Content, Read, holds, refused, reading}
 use Rattle.delivery.specs.Course.{courseOf, late, forward, Course, distance}
 use Rattle.receiver_spec.specs.Opening as receiver
-use Rattle.receiver_spec.specs.Opening.{openingRefused}
+use Rattle.receiver_spec.specs.Opening.{receiverRefused}
 use Rattle.receiver_spec.specs.Answers.{Opening, refuses}
 use Rattle.receiver_spec.specs.State.{zeroReceiver, freshReceiver, openingChecks, Receiver, sourceExpected}
 use Rattle.receiver_spec.specs.Step.{stepRead, firstStep, stepBy, stepOf}
-use Rattle.sender_spec.specs.State.{Settings, Sender, fresh, zeroSender}
+use Rattle.sender_spec.specs.State.{Settings, Sender, freshSender, zeroSender}
 use Rattle.sender_spec.specs.Answers as answers
-use Rattle.sender_spec.specs.Answers.{Numbered, ClockResult}
+use Rattle.sender_spec.specs.Answers.{CallResult, ClockResult}
 use Rattle.sender_spec.specs.Settings.{settingsChecks, settingsNumber}
 use Rattle.sender_spec.specs.Calls as sender
 use Rattle.sender_spec.specs.Offering.{offerChecks, senderWith}
@@ -35,40 +35,40 @@ use Rattle.sender_spec.proofs.Shapes.{Offer, Clock, offer-shape, clock-shape}
 module _ (t140 red : ℕ) where
   -- both cases of a receiver's opening
   abbrev by : Bool → Opening
-  by b = cond b (openingRefused 3) (record { number = 0; receiver = freshReceiver t140 red })
+  by b = cond b (receiverRefused 3) (record { number = 0; receiver = freshReceiver t140 red })
 
-  receiver-number : receiver.openingOf t140 red .number ≡ numberBy (openingChecks t140 red)
-  receiver-number = checked-of (λ (o : Opening). o .number) openingRefused (openingChecks t140 red) _
+  receiver-number : receiver.openReceiver t140 red .number ≡ numberBy (openingChecks t140 red)
+  receiver-number = checked-of (λ (o : Opening). o .number) receiverRefused (openingChecks t140 red) _
 
-  pub receiver-opened : receiver.openingOf t140 red .number ≡ 0 → receiver.openingOf t140 red .receiver ≡ freshReceiver t140 red
+  pub receiver-opened : receiver.openReceiver t140 red .number ≡ 0 → receiver.openReceiver t140 red .receiver ≡ freshReceiver t140 red
   receiver-opened = go (typesBad t140 red)
     where
       go : (b : Bool) → by b .number ≡ 0 → by b .receiver ≡ freshReceiver t140 red
       go true e = absurd (omega arith)
       go false e = refl
 
-  receiver-refused : (n : ℕ) → receiver.openingOf t140 red .number ≡ suc n → receiver.openingOf t140 red .receiver ≡ zeroReceiver
+  receiver-refused : (n : ℕ) → receiver.openReceiver t140 red .number ≡ suc n → receiver.openReceiver t140 red .receiver ≡ zeroReceiver
   receiver-refused n = go (typesBad t140 red)
     where
       go : (b : Bool) → by b .number ≡ suc n → by b .receiver ≡ zeroReceiver
       go true e = refl
       go false e = absurd (omega arith)
 
-sender-number : (x : Settings) → sender.openingOf x .number ≡ numberBy (settingsChecks x)
-unfolding sender.openingOf settingsNumber
+sender-number : (x : Settings) → sender.openSender x .number ≡ numberBy (settingsChecks x)
+unfolding sender.openSender settingsNumber
 sender-number x = go (settingsNumber x) (eqb (settingsNumber x) 0) refl
   where
-    go : (n : ℕ) (b : Bool) → eqb n 0 ≡ b → cond {A = Numbered} (not b) (sender.openingRefused n) (record { number = 0; sender = fresh x }) .number ≡ n
+    go : (n : ℕ) (b : Bool) → eqb n 0 ≡ b → cond {A = CallResult} (not b) (sender.senderRefused n) (record { number = 0; sender = freshSender x }) .number ≡ n
     go n true q = sym (eqb-true n 0 q)
     go n false q = refl
 
-sender-refused : (x : Settings) (n : ℕ) → sender.openingOf x .number ≡ suc n → sender.openingOf x .sender ≡ zeroSender
-unfolding sender.openingOf
+sender-refused : (x : Settings) (n : ℕ) → sender.openSender x .number ≡ suc n → sender.openSender x .sender ≡ zeroSender
+unfolding sender.openSender
 sender-refused x n = go (eqb (settingsNumber x) 0)
   where
     go : (b : Bool)
-        → cond {A = Numbered} (not b) (sender.openingRefused (settingsNumber x)) (record { number = 0; sender = fresh x }) .number ≡ suc n
-        → cond {A = Numbered} (not b) (sender.openingRefused (settingsNumber x)) (record { number = 0; sender = fresh x }) .sender ≡ zeroSender
+        → cond {A = CallResult} (not b) (sender.senderRefused (settingsNumber x)) (record { number = 0; sender = freshSender x }) .number ≡ suc n
+        → cond {A = CallResult} (not b) (sender.senderRefused (settingsNumber x)) (record { number = 0; sender = freshSender x }) .sender ≡ zeroSender
     go true e = absurd (omega arith)
     go false e = refl
 
@@ -91,12 +91,12 @@ step-refused r p n e = ap (λ (x : Read). stepRead r p x .receiver) (step-is r p
 
 offer-number : (s : Sender) (t : ℕ) (x : List ℕ) → offerOf s t x .number ≡ numberBy (offerChecks s t x)
 unfolding offerOf
-offer-number s t x = checked-of (λ (r : Numbered). r .number) (offerRefused s) (offerChecks s t x) (record { number = 0; sender = senderWith s t x })
+offer-number s t x = checked-of (λ (r : CallResult). r .number) (offerRefused s) (offerChecks s t x) (record { number = 0; sender = senderWith s t x })
 
 offer-refused : (s : Sender) (t : ℕ) (x : List ℕ) (n : ℕ) → offerOf s t x .number ≡ suc n → offerOf s t x .sender ≡ s
 offer-refused s t x n = go (offerOf s t x) (offer-shape s t x)
   where
-    go : (r : Numbered) → Offer s t x r → r .number ≡ suc n → r .sender ≡ s
+    go : (r : CallResult) → Offer s t x r → r .number ≡ suc n → r .sender ≡ s
     go r (shapes.refused k h) e = refl
     go r (shapes.joined a b c d) e = absurd (omega arith)
 

@@ -17,16 +17,16 @@ use Rattle.packet_spec.specs.Encoding.{Admits}
 use Rattle.receiver_spec.specs.State.{Receiver, readBy, sourceExpected}
 use Rattle.receiver_spec.specs.Step.{stepRead, stepOf}
 use Rattle.receiver_spec.specs.Answers.{isAccepted}
-use Rattle.sender_spec.specs.State.{Settings, Sender, fresh}
+use Rattle.sender_spec.specs.State.{Settings, Sender, freshSender}
 use Rattle.sender_spec.specs.Answers as answers
-use Rattle.sender_spec.specs.Answers.{Numbered, ClockResult}
+use Rattle.sender_spec.specs.Answers.{CallResult, ClockResult}
 use Rattle.sender_spec.specs.Settings.{settingsNumber}
 use Rattle.sender_spec.specs.Offering.{senderWith}
 use Rattle.sender_spec.specs.Calls.{offerOf, clockOf}
 use Rattle.sender_spec.specs.Packets.{due, taken, left, contentOf, packetBytes, afterPacket}
 use Rattle.sender_spec.specs.Clocking.{clockChecks}
 use Rattle.demands.specs.Ours.{ours}
-use Rattle.demands.specs.Sending.{Call, offer, clock, Written, primaryOf, writtenBy, acceptedText, writes, offers, after, written, typed, finally}
+use Rattle.demands.specs.Sending.{Call, offer, clock, Written, primarySent, writtenBy, acceptedText, writes, offers, senderAfter, written, typed, finally}
 use Rattle.demands.specs.Demand2.{ReadBack, Demand2}
 use Rattle.text_spec.proofs.WellFormed.{characters-are-letters, letters-are-characters}
 use Rattle.packet_spec.proofs.Lies.{lies, block-is}
@@ -39,7 +39,7 @@ use Rattle.sender_spec.proofs.Shapes as shapes
 use Rattle.sender_spec.proofs.Shapes.{Offer, Clock, offer-shape, clock-shape}
 use Rattle.demands.proofs.Follow.{Move, still, moved, sends, move}
 
-after-good : (s : Sender) (c : Call) → Good s → Good (after ours s c)
+after-good : (s : Sender) (c : Call) → Good s → Good (senderAfter ours s c)
 after-good s (offer t x) g = offer-good s t x g
 after-good s (clock t p) g = clock-good s t p g
 
@@ -68,7 +68,7 @@ module _ (x : Settings) (s : Sender) (t : ℕ) (e : s .settings ≡ x) (ok : set
 -- of any good sender with these settings
 pub good-back : (x : Settings) (cs : List Call) (s : Sender) → s .settings ≡ x → Good s → Every (ReadBack ours x) (written ours s cs)
 good-back x [] s e g = tt
-good-back x (c ∷ cs) s e g = go (after ours s c) (writes ours s c) (move s c) (good-back x cs (after ours s c)) (after-good s c g)
+good-back x (c ∷ cs) s e g = go (senderAfter ours s c) (writes ours s c) (move s c) (good-back x cs (senderAfter ours s c)) (after-good s c g)
   where
     go : (s₁ : Sender) (ws : List Written) → Move s s₁ ws → (s₁ .settings ≡ x → Good s₁ → Every (ReadBack ours x) (written ours s₁ cs)) → Good s₁
         → Every (ReadBack ours x) (ws ++ written ours s₁ cs)
@@ -81,14 +81,14 @@ takes-front : (s : Sender) (t : ℕ) → taken s t ++ left s t ≡ s .waiting
 takes-front s t = append-nil (s .waiting)
 
 abbrev primaries : List Written → List ℕ
-primaries ws = joined (map primaryOf ws)
+primaries ws = joined (map primarySent ws)
 
 -- from any sender on: what left, and then what waits, is what waited and what was typed
 typed-from : (cs : List Call) (s : Sender) → primaries (written ours s cs) ++ finally ours s cs .waiting ≡ s .waiting ++ typed ours s cs
 typed-from [] s = sym (append-nil (s .waiting))
 typed-from (offer t x ∷ cs) s = go (offerOf s t x) (offer-shape s t x) (typed-from cs (offerOf s t x .sender))
   where
-    go : (r : Numbered) → Offer s t x r
+    go : (r : CallResult) → Offer s t x r
         → primaries (written ours (r .sender) cs) ++ finally ours (r .sender) cs .waiting ≡ r .sender .waiting ++ typed ours (r .sender) cs
         → primaries (written ours (r .sender) cs) ++ finally ours (r .sender) cs .waiting ≡ s .waiting ++ (acceptedText (r .number) x ++ typed ours (r .sender) cs)
     go r (shapes.refused (suc n) h) e = e
@@ -112,7 +112,7 @@ typed-from (clock t p ∷ cs) s = go (clockOf s t p) (clock-shape s t p) (typed-
 joins : (s : Sender) (t : ℕ) (x : List ℕ) → offerOf s t x .number ≡ 0 → offerOf s t x .sender ≡ senderWith s t x
 joins s t x = go (offerOf s t x) (offer-shape s t x)
   where
-    go : (r : Numbered) → Offer s t x r → r .number ≡ 0 → r .sender ≡ senderWith s t x
+    go : (r : CallResult) → Offer s t x r → r .number ≡ 0 → r .sender ≡ senderWith s t x
     go r (shapes.refused n h) e = absurd (omega arith)
     go r (shapes.joined a b c d) e = refl
 
@@ -131,7 +131,7 @@ demand-2 = record {
   joins = joins;
   writes-when-due = writes-when-due;
   read-back = λ x calls o.
-      subst (λ (s : Sender). Every (ReadBack ours x) (written ours s calls)) (sym (open-passed x o .1)) (good-back x calls (fresh x) refl (fresh-good x));
+      subst (λ (s : Sender). Every (ReadBack ours x) (written ours s calls)) (sym (open-passed x o .1)) (good-back x calls (freshSender x) refl (fresh-good x));
   as-typed = λ x calls o.
-      subst (λ (s : Sender). primaries (written ours s calls) ++ finally ours s calls .waiting ≡ typed ours s calls) (sym (open-passed x o .1)) (typed-from calls (fresh x));
+      subst (λ (s : Sender). primaries (written ours s calls) ++ finally ours s calls .waiting ≡ typed ours s calls) (sym (open-passed x o .1)) (typed-from calls (freshSender x));
 }

@@ -12,22 +12,22 @@ use Rattle.packet_spec.specs.Limits.{level}
 use Rattle.delivery.specs.Numbers.{wrapped, next}
 use Rattle.delivery.specs.Sending.{range}
 use Rattle.delivery.specs.Run.{run, oldestOf, Rules}
-use Rattle.sender_spec.specs.State.{Block, Sender}
-use Rattle.sender_spec.specs.Answers.{Numbered, ClockResult}
+use Rattle.sender_spec.specs.State.{SentBlock, Sender}
+use Rattle.sender_spec.specs.Answers.{CallResult, ClockResult}
 use Rattle.sender_spec.specs.Offering.{senderWith}
 use Rattle.sender_spec.specs.Calls.{offerOf, clockOf}
 use Rattle.sender_spec.specs.Packets.{due, packetBytes, recentRun, carried, taken, contentOf, repeated, afterPacket}
 use Rattle.sender_spec.specs.Settings.{settingsNumber}
 use Rattle.demands.specs.Ours.{ours}
 use Rattle.demands.specs.Rules.{IsPacket}
-use Rattle.demands.specs.Sending.{Call, offer, clock, Written, writtenBy, writes, after, written, finally}
+use Rattle.demands.specs.Sending.{Call, offer, clock, Written, writtenBy, writes, senderAfter, written, finally}
 use Rattle.delivery.proofs.Runs.{run-within}
 use Rattle.sender_spec.proofs.Shapes as shapes
 use Rattle.sender_spec.proofs.Shapes.{Offer, Clock, offer-shape, clock-shape}
 use Rattle.demands.proofs.Log.{down, take-down, keep-down, recent-down, reverse-down}
 
 -- the block of a packet
-abbrev pub blockOf : Written → Block
+abbrev pub blockOf : Written → SentBlock
 blockOf w = record { text = w .content .primary; at = w .time }
 
 -- what a call can do to a sender, as far as the log goes
@@ -37,10 +37,10 @@ pub data Move (s : Sender) : Sender → List Written → Type 0 where
   sends : (t : ℕ) (p : List ℕ) → s .clock ≤ t → settingsNumber (s .settings) ≡ 0 → due s t ≡ true → take (length (packetBytes s t)) p ≡ packetBytes s t
       → Move s (afterPacket s t) (record { packet = take (length (packetBytes s t)) p; time = t; content = contentOf s t } ∷ [])
 
-pub move : (s : Sender) (c : Call) → Move s (after ours s c) (writes ours s c)
+pub move : (s : Sender) (c : Call) → Move s (senderAfter ours s c) (writes ours s c)
 move s (offer t x) = go (offerOf s t x) (offer-shape s t x)
   where
-    go : (r : Numbered) → Offer s t x r → Move s (r .sender) []
+    go : (r : CallResult) → Offer s t x r → Move s (r .sender) []
     go r (shapes.refused n h) = still
     go r (shapes.joined a b c d) = moved (senderWith s t x) b refl refl refl
 move s (clock t p) = go (clockOf s t p) (clock-shape s t p)
@@ -51,13 +51,13 @@ move s (clock t p) = go (clockOf s t p) (clock-shape s t p)
     go r (shapes.sent a b c d) = sends t (over (packetBytes s t) p) b a c (take-append-seam (packetBytes s t) (drop (length (packetBytes s t)) p))
 
 -- the log from a sender on: the blocks of the packets written, then d
-abbrev pub logFrom : Sender → List Call → Block → ℕ → Block
+abbrev pub logFrom : Sender → List Call → SentBlock → ℕ → SentBlock
 logFrom s cs d k = getD (map blockOf (written ours s cs)) k d
 
 -- no time is below the clock before the calls, and times never fall
-low : (cs : List Call) (s : Sender) (d : Block) → finally ours s cs .clock ≤ d .at → (k : ℕ) → s .clock ≤ logFrom s cs d k .at
+low : (cs : List Call) (s : Sender) (d : SentBlock) → finally ours s cs .clock ≤ d .at → (k : ℕ) → s .clock ≤ logFrom s cs d k .at
 low [] s d h k = h
-low (c ∷ cs) s d h k = go (after ours s c) (writes ours s c) (move s c) h (low cs (after ours s c) d) k
+low (c ∷ cs) s d h k = go (senderAfter ours s c) (writes ours s c) (move s c) h (low cs (senderAfter ours s c) d) k
   where
     go : (s₁ : Sender) (ws : List Written) → Move s s₁ ws → finally ours s₁ cs .clock ≤ d .at
         → (finally ours s₁ cs .clock ≤ d .at → (k : ℕ) → s₁ .clock ≤ logFrom s₁ cs d k .at)
@@ -67,9 +67,9 @@ low (c ∷ cs) s d h k = go (after ours s c) (writes ours s c) (move s c) h (low
     go s₁ ws (sends t p l x y z) h f zero = l
     go s₁ ws (sends t p l x y z) h f (suc k) = le-trans l (f h k)
 
-pub rises : (cs : List Call) (s : Sender) (d : Block) → finally ours s cs .clock ≤ d .at → (k : ℕ) → logFrom s cs d k .at ≤ logFrom s cs d (suc k) .at
+pub rises : (cs : List Call) (s : Sender) (d : SentBlock) → finally ours s cs .clock ≤ d .at → (k : ℕ) → logFrom s cs d k .at ≤ logFrom s cs d (suc k) .at
 rises [] s d h k = le-refl (d .at)
-rises (c ∷ cs) s d h k = go (after ours s c) (writes ours s c) (move s c) h (low cs (after ours s c) d) (rises cs (after ours s c) d) k
+rises (c ∷ cs) s d h k = go (senderAfter ours s c) (writes ours s c) (move s c) h (low cs (senderAfter ours s c) d) (rises cs (senderAfter ours s c) d) k
   where
     go : (s₁ : Sender) (ws : List Written) → Move s s₁ ws → finally ours s₁ cs .clock ≤ d .at
         → (finally ours s₁ cs .clock ≤ d .at → (k : ℕ) → s₁ .clock ≤ logFrom s₁ cs d k .at)
@@ -87,7 +87,7 @@ rises-by f r j (suc m) = let e : suc (j + m) ≡ j + suc m = omega arith in subs
 rises-to : (f : ℕ → ℕ) → ((k : ℕ) → f k ≤ f (suc k)) → (j n : ℕ) → j < n → f j ≤ f n
 rises-to f r j n h = let e : j + (n - j) ≡ n = omega arith in subst (λ k. f j ≤ f k) e (rises-by f r j (n - j))
 
-module _ (R : ℕ) (small : R ≤ level) (first : ℕ) (f : ℕ → Block) (f-rises : (k : ℕ) → f k .at ≤ f (suc k) .at) where
+module _ (R : ℕ) (small : R ≤ level) (first : ℕ) (f : ℕ → SentBlock) (f-rises : (k : ℕ) → f k .at ≤ f (suc k) .at) where
   abbrev pub rules : Rules
   rules = record { level = R; first = first; block = λ k. f k .text; time = λ k. f k .at }
 
@@ -101,7 +101,7 @@ module _ (R : ℕ) (small : R ≤ level) (first : ℕ) (f : ℕ → Block) (f-ri
   carried-is : (s : Sender) (n : ℕ) → At s n → carried s (f n .at) ≡ down f n (run (λ k. f k .at) (f n .at) R n)
   carried-is s n a =
       let k : take (s .settings .level) (s .kept) ≡ down f n R =
-      ap₂ {C = List Block} (λ r bs. take r bs) (a .level-is) (a .kept-is) ∙ take-down f n R level small in
+      ap₂ {C = List SentBlock} (λ r bs. take r bs) (a .level-is) (a .kept-is) ∙ take-down f n R level small in
       ap (recentRun (f n .at)) k ∙ recent-down f (f n .at) R n (λ j h. rises-to (λ i. f i .at) f-rises j n h)
 
   texts-down : (n m : ℕ) → m ≤ n → map (λ b. b .text) (reverse (down f n m)) ≡ map (λ k. f k .text) (range (n - m) (n - (n - m)))
@@ -128,16 +128,16 @@ module _ (R : ℕ) (small : R ≤ level) (first : ℕ) (f : ℕ → Block) (f-ri
       }
 
   kept-after : (s : Sender) (n t : ℕ) → At s n → f n ≡ record { text = taken s t; at = t } → afterPacket s t .kept ≡ down f (suc n) level
-  kept-after s n t a e = ap₂ {C = List Block} (λ y ys. take level (y ∷ ys)) (sym e) (a .kept-is) ∙ keep-down f n level
+  kept-after s n t a e = ap₂ {C = List SentBlock} (λ y ys. take level (y ∷ ys)) (sym e) (a .kept-is) ∙ keep-down f n level
 
   -- packets that are the sender's from number n on
   abbrev pub Packets : ℕ → List Written → Type 0
   Packets n [] = Unit {0}
   Packets n (w ∷ ws) = IsPacket rules n (w .content) × Packets (suc n) ws
 
-  pub follow : (cs : List Call) (s : Sender) (n : ℕ) (d : Block) → At s n → ((i : ℕ) → f (n + i) ≡ logFrom s cs d i) → Packets n (written ours s cs)
+  pub follow : (cs : List Call) (s : Sender) (n : ℕ) (d : SentBlock) → At s n → ((i : ℕ) → f (n + i) ≡ logFrom s cs d i) → Packets n (written ours s cs)
   follow [] s n d a g = tt
-  follow (c ∷ cs) s n d a g = go (after ours s c) (writes ours s c) (move s c) (λ s₁ n₁. follow cs s₁ n₁ d) g
+  follow (c ∷ cs) s n d a g = go (senderAfter ours s c) (writes ours s c) (move s c) (λ s₁ n₁. follow cs s₁ n₁ d) g
     where
       go : (s₁ : Sender) (ws : List Written) → Move s s₁ ws
           → ((s₂ : Sender) (n₂ : ℕ) → At s₂ n₂ → ((i : ℕ) → f (n₂ + i) ≡ logFrom s₂ cs d i) → Packets n₂ (written ours s₂ cs))

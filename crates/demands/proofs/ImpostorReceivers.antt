@@ -10,16 +10,16 @@ use lib.ListN.{length, replicate}
 use Rattle.packet_spec.specs.Header.{Expected, Any}
 use Rattle.packet_spec.specs.Redundancy.{headers}
 use Rattle.packet_spec.specs.Reading.{Read, holds, refused, reading}
-use Rattle.delivery.specs.Claim.{Near, expected}
+use Rattle.delivery.specs.Claim.{Near, expectedRecord}
 use Rattle.delivery.specs.Run.{Rules, senderOf}
 use Rattle.receiver_spec.specs.Opening as receiver
 use Rattle.receiver_spec.specs.State.{Receiver}
 use Rattle.receiver_spec.specs.Step.{stepOf}
-use Rattle.receiver_spec.specs.Answers.{Step, gives, isLate, refuses, Answered, Given}
+use Rattle.receiver_spec.specs.Answers.{Step, gives, isLate, refuses, StepAnswer, Given}
 use Rattle.receiver_spec.specs.Record.{recordOf, acceptedOf}
-use Rattle.sender_spec.specs.State.{Settings, Block, Sender}
+use Rattle.sender_spec.specs.State.{Settings, SentBlock, Sender}
 use Rattle.sender_spec.specs.Answers as answers
-use Rattle.sender_spec.specs.Answers.{Numbered, ClockResult}
+use Rattle.sender_spec.specs.Answers.{CallResult, ClockResult}
 use Rattle.sender_spec.specs.Settings.{settingsNumber}
 use Rattle.sender_spec.specs.Calls as sender
 use Rattle.sender_spec.specs.Offering.{senderWith}
@@ -56,7 +56,7 @@ abbrev packet : ℕ → List ℕ
 packet = packetAt ws
 
 keeps : KeepsRules 98 100 (rulesOf (settings 2) ws (leftBy ours (settings 2) calls .clock)) packet
-unfolding sender.openingOf settingsNumber
+unfolding sender.openSender settingsNumber
 keeps = ours-keeps (settings 2) calls refl
 
 abbrev rules : Rules
@@ -77,11 +77,11 @@ refusing = record {
 }
 
 pub refuses-everything-fails : Demand1 refusing → ⊥
-unfolding reading headers sender.openingOf settingsNumber offerOf clockOf
+unfolding reading headers sender.openSender settingsNumber offerOf clockOf
 refuses-everything-fails d = let z : _≡_ {A = ℕ} 0 1 = ap numberOf (d .read-number Any 98 100 (packet 0) 10 .0 refl) in omega arith
 
 pub refuses-everything-reads-nothing-back : Demand2 refusing → ⊥
-unfolding reading headers sender.openingOf settingsNumber offerOf clockOf
+unfolding reading headers sender.openSender settingsNumber offerOf clockOf
 refuses-everything-reads-nothing-back d = let z : _≡_ {A = ℕ} 1 0 = ap numberOf (d .read-back (settings 2) calls refl .0 .read Any tt) in omega arith
 
 -- openings that always refuse
@@ -90,10 +90,10 @@ closed = record {
   text = ours .text;
   read = ours .read;
   block = ours .block;
-  openReceiver = λ t140 red. receiver.openingRefused 3;
+  openReceiver = λ t140 red. receiver.receiverRefused 3;
   step = ours .step;
   handOut = ours .handOut;
-  openSender = λ x. sender.openingRefused 1;
+  openSender = λ x. sender.senderRefused 1;
   offer = ours .offer;
   clock = ours .clock;
 }
@@ -121,10 +121,10 @@ withStep step = record {
 -- where packets of our sender arrive, the record has as many entries as the expected one
 module _ (step : Receiver → List ℕ → Step) (d : Demand3 (withStep step)) where
   abbrev fresh : Receiver
-  fresh = receiver.openingOf 98 100 .receiver
+  fresh = receiver.openReceiver 98 100 .receiver
 
   as-many : (ks : List ℕ) → acceptedOf step fresh (map packet ks) ≡ map packet ks → Near (senderOf rules) ks
-      → length (recordOf step fresh (map packet ks)) ≡ length (expected (senderOf rules) ks)
+      → length (recordOf step fresh (map packet ks)) ≡ length (expectedRecord (senderOf rules) ks)
   as-many ks accepted near = ap length (d .recorded 98 100 refl rules packet keeps (map packet ks) ks accepted near)
 
 -- always one answer: packet 1 is lost, and packet 2's repeat of `B` is not given
@@ -132,7 +132,7 @@ abbrev fixedAnswer : Receiver → List ℕ → Step
 fixedAnswer r p = record { receiver = r; answer = gives (record { loss = 0; distance = pos 0; older = 0; given = 1; from = 12; to = 12 }) }
 
 pub fixed-answer-fails : Demand3 (withStep fixedAnswer) → ⊥
-unfolding stepOf reading headers sender.openingOf settingsNumber offerOf clockOf
+unfolding stepOf reading headers sender.openSender settingsNumber offerOf clockOf
 fixed-answer-fails d = let z : _≡_ {A = ℕ} 2 3 = as-many fixedAnswer d (0 ∷ 2 ∷ []) refl (omega arith, omega arith, tt) in omega arith
 
 -- does nothing: every packet is late
@@ -140,7 +140,7 @@ abbrev doesNothing : Receiver → List ℕ → Step
 doesNothing r p = record { receiver = r; answer = isLate (negsuc 0) }
 
 pub does-nothing-fails : Demand3 (withStep doesNothing) → ⊥
-unfolding stepOf reading headers sender.openingOf settingsNumber offerOf clockOf
+unfolding stepOf reading headers sender.openSender settingsNumber offerOf clockOf
 does-nothing-fails d = let z : _≡_ {A = ℕ} 0 1 = as-many doesNothing d (0 ∷ []) refl tt in omega arith
 
 -- never moves: every packet is its first, and `A` is given twice
@@ -148,7 +148,7 @@ abbrev neverMoves : Receiver → List ℕ → Step
 neverMoves r p = record { receiver = r; answer = stepOf r p .answer }
 
 pub never-moves-fails : Demand3 (withStep neverMoves) → ⊥
-unfolding stepOf reading headers sender.openingOf settingsNumber offerOf clockOf
+unfolding stepOf reading headers sender.openSender settingsNumber offerOf clockOf
 never-moves-fails d = let z : _≡_ {A = ℕ} 3 2 = as-many neverMoves d (0 ∷ 1 ∷ []) refl (omega arith, omega arith, tt) in omega arith
 
 -- gives the first packet's text, and then says only "late"
@@ -156,11 +156,11 @@ abbrev lateForEver : Receiver → List ℕ → Step
 lateForEver r p = cond (r .hasSource) (record { receiver = r; answer = isLate (negsuc 0) }) (stepOf r p)
 
 pub late-for-ever-fails : Demand3 (withStep lateForEver) → ⊥
-unfolding stepOf reading headers sender.openingOf settingsNumber offerOf clockOf
+unfolding stepOf reading headers sender.openSender settingsNumber offerOf clockOf
 late-for-ever-fails d = let z : _≡_ {A = ℕ} 1 2 = as-many lateForEver d (0 ∷ 1 ∷ []) refl (omega arith, omega arith, tt) in omega arith
 
 -- another answer where a packet gives something
-abbrev givesBy : (Given → Given) → Step → Answered → Step
+abbrev givesBy : (Given → Given) → Step → StepAnswer → Step
 givesBy f s (refuses n) = s
 givesBy f s (isLate z) = s
 givesBy f s (gives g) = record { receiver = s .receiver; answer = gives (f g) }
@@ -172,7 +172,7 @@ madeUpLoss r p =
     (stepOf r p) (stepOf r p .answer)
 
 pub made-up-loss-fails : Demand3 (withStep madeUpLoss) → ⊥
-unfolding stepOf reading headers sender.openingOf settingsNumber offerOf clockOf
+unfolding stepOf reading headers sender.openSender settingsNumber offerOf clockOf
 made-up-loss-fails d = let z : _≡_ {A = ℕ} 2 1 = as-many madeUpLoss d (0 ∷ []) refl tt in omega arith
 
 -- all older blocks where d are missing: `A` is recorded again
@@ -182,7 +182,7 @@ allOlder r p =
     (stepOf r p) (stepOf r p .answer)
 
 pub all-older-fails : Demand3 (withStep allOlder) → ⊥
-unfolding stepOf reading headers sender.openingOf settingsNumber offerOf clockOf
+unfolding stepOf reading headers sender.openSender settingsNumber offerOf clockOf
 all-older-fails d = let z : _≡_ {A = ℕ} 3 2 = as-many allOlder d (0 ∷ 1 ∷ []) refl (omega arith, omega arith, tt) in omega arith
 
 -- 16 for ever after the first packet: demand 3 speaks of accepted packets alone, but the table's "only when" shuts it out
@@ -190,7 +190,7 @@ abbrev sixteenForEver : Receiver → List ℕ → Step
 sixteenForEver r p = cond (r .hasSource) (record { receiver = r; answer = refuses 16 }) (stepOf r p)
 
 pub sixteen-for-ever-fails : Demand1 (withStep sixteenForEver) → ⊥
-unfolding stepOf reading headers sender.openingOf settingsNumber offerOf clockOf
+unfolding stepOf reading headers sender.openSender settingsNumber offerOf clockOf
 sixteen-for-ever-fails d =
     let r : Receiver = record { t140 = 98; red = 100; hasSource = true; source = 7; expected = 0 } in
     let q = d .step-number r (packet 1) 16 .0 refl in

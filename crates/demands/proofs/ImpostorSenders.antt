@@ -9,9 +9,9 @@ use lib.ListN.{length}
 use Rattle.packet_spec.specs.Limits.{level}
 use Rattle.packet_spec.specs.Redundancy.{headers}
 use Rattle.packet_spec.specs.Reading.{reading}
-use Rattle.sender_spec.specs.State.{Settings, Block, Sender}
+use Rattle.sender_spec.specs.State.{Settings, SentBlock, Sender}
 use Rattle.sender_spec.specs.Answers as answers
-use Rattle.sender_spec.specs.Answers.{Numbered, Answered, ClockResult}
+use Rattle.sender_spec.specs.Answers.{CallResult, ClockAnswer, ClockResult}
 use Rattle.sender_spec.specs.Settings.{settingsNumber}
 use Rattle.sender_spec.specs.Calls as sender
 use Rattle.sender_spec.specs.Offering.{senderWith}
@@ -24,7 +24,7 @@ use Rattle.demands.specs.Demand3.{Demand3}
 use Rattle.demands.proofs.ImpostorReceivers.{settings, space}
 
 -- our line with other offers and clock calls
-abbrev withSender : (Sender → ℕ → List ℕ → Numbered) → (Sender → ℕ → List ℕ → ClockResult) → Line
+abbrev withSender : (Sender → ℕ → List ℕ → CallResult) → (Sender → ℕ → List ℕ → ClockResult) → Line
 withSender offers clocks = record {
   text = ours .text;
   read = ours .read;
@@ -41,20 +41,20 @@ withSender offers clocks = record {
 abbrev alwaysQuiet : Line
 alwaysQuiet = withSender offerOf clockQuiet
 
-abbrev isSent : Answered → ℕ
+abbrev isSent : ClockAnswer → ℕ
 isSent (answers.refused n) = 0
 isSent answers.quiet = 0
 isSent (answers.sent n) = 1
 
 pub always-quiet-fails : Demand2 alwaysQuiet → ⊥
-unfolding sender.openingOf settingsNumber offerOf
+unfolding sender.openSender settingsNumber offerOf
 always-quiet-fails d =
-    let s : Sender = senderWith (sender.openingOf (settings 2) .sender) 0 (0x41 ∷ []) in
+    let s : Sender = senderWith (sender.openSender (settings 2) .sender) 0 (0x41 ∷ []) in
     let z : _≡_ {A = ℕ} 0 1 = ap isSent (d .writes-when-due s 0 space refl refl (omega arith) .0) in
     omega arith
 
 -- what waits is deleted where a clock call is quiet: `A` leaves at 0, `B` is offered at 1, and at 2 nothing is due
-abbrev deletedBy : Sender → ClockResult → Answered → ClockResult
+abbrev deletedBy : Sender → ClockResult → ClockAnswer → ClockResult
 deletedBy s r (answers.refused n) = r
 deletedBy s r (answers.sent n) = r
 deletedBy s r answers.quiet = record {
@@ -67,14 +67,14 @@ abbrev deleting : Line
 deleting = withSender offerOf (λ s t p. deletedBy s (clockOf s t p) (clockOf s t p .answer))
 
 pub deleting-fails : Demand2 deleting → ⊥
-unfolding sender.openingOf settingsNumber offerOf clockOf
+unfolding sender.openSender settingsNumber offerOf clockOf
 deleting-fails d =
     let calls = offer 0 (0x41 ∷ []) ∷ clock 0 space ∷ offer 1 (0x42 ∷ []) ∷ clock 2 space ∷ [] in
     let z : _≡_ {A = ℕ} 1 2 = ap length (d .as-typed (settings 2) calls refl) in
     omega arith
 
 -- an offer is kept twice
-abbrev twiceBy : Sender → ℕ → List ℕ → Numbered → ℕ → Numbered
+abbrev twiceBy : Sender → ℕ → List ℕ → CallResult → ℕ → CallResult
 twiceBy s t x r zero = record { number = 0; sender = senderWith s t (x ++ x) }
 twiceBy s t x r (suc n) = r
 
@@ -82,11 +82,11 @@ abbrev keptTwice : Line
 keptTwice = withSender (λ s t x. twiceBy s t x (offerOf s t x) (offerOf s t x .number)) clockOf
 
 pub kept-twice-fails : Demand2 keptTwice → ⊥
-unfolding sender.openingOf settingsNumber offerOf
+unfolding sender.openSender settingsNumber offerOf
 kept-twice-fails d = let z : _≡_ {A = ℕ} 2 1 = ap length (d .as-typed (settings 2) (offer 0 (0x41 ∷ []) ∷ []) refl) in omega arith
 
 -- a sender with other settings and kept blocks
-abbrev like : Sender → Settings → List Block → Sender
+abbrev like : Sender → Settings → List SentBlock → Sender
 like s x kept = record { settings = x; clock = s .clock; waiting = s .waiting; since = s .since; kept = kept; progress = s .progress }
 
 -- repeats past the level: a sender of R 1 that writes as one of the highest level; packet 2 repeats `A` too
@@ -100,21 +100,21 @@ abbrev pastLevel : Line
 pastLevel = withSender offerOf (λ s t p. backTo (s .settings) (clockOf (like s (deep (s .settings)) (s .kept)) t p))
 
 pub past-level-fails : Demand3 pastLevel → ⊥
-unfolding reading headers sender.openingOf settingsNumber offerOf clockOf
+unfolding reading headers sender.openSender settingsNumber offerOf clockOf
 past-level-fails d =
     let calls = offer 0 (0x41 ∷ []) ∷ clock 0 space ∷ offer 300 (0x42 ∷ []) ∷ clock 300 space ∷ offer 600 (0x43 ∷ []) ∷ clock 600 space ∷ [] in
     let z : _≡_ {A = ℕ} 2 1 = ap length (d .keeps (settings 1) calls refl .reads 2 _ refl .older) in
     omega arith
 
 -- ages are not tested: kept blocks pass for new ones; `A`, sent at 0, is repeated at 16,384
-abbrev renewed : ℕ → List Block → List Block
-renewed t bs = map (λ (b : Block). record { text = b .text; at = t }) bs
+abbrev renewed : ℕ → List SentBlock → List SentBlock
+renewed t bs = map (λ (b : SentBlock). record { text = b .text; at = t }) bs
 
 abbrev ageless : Line
 ageless = withSender offerOf (λ s t p. clockOf (like s (s .settings) (renewed t (s .kept))) t p)
 
 pub ageless-fails : Demand3 ageless → ⊥
-unfolding reading headers sender.openingOf settingsNumber offerOf clockOf
+unfolding reading headers sender.openSender settingsNumber offerOf clockOf
 ageless-fails d =
     let calls = offer 0 (0x41 ∷ []) ∷ clock 0 space ∷ clock 16384 space ∷ [] in
     let z : _≡_ {A = ℕ} 1 0 = ap length (d .keeps (settings 1) calls refl .reads 1 _ refl .older) in

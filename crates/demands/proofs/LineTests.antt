@@ -4,10 +4,10 @@ use Rattle.packet_spec.specs.Redundancy.{headers}
 use Rattle.packet_spec.specs.Reading.{reading}
 use Rattle.receiver_spec.specs.Step.{stepOf}
 use Rattle.sender_spec.specs.Settings.{settingsNumber}
-use Rattle.sender_spec.specs.Calls.{openingOf, offerOf, clockOf}
+use Rattle.sender_spec.specs.Calls.{openSender, offerOf, clockOf}
 use Rattle.demands.specs.LineTests.{table, LineTests}
 
 pub line-tests : LineTests
-unfolding table stepOf reading headers openingOf offerOf clockOf settingsNumber
+unfolding table stepOf reading headers openSender offerOf clockOf settingsNumber
 line-tests =
     (refl, (refl, (refl, (refl, (refl, (refl, (refl, (refl, (refl, (refl, (refl, (refl, (refl, (refl, (refl, (refl, (refl, (refl, (refl, (refl, tt))))))))))))))))))))

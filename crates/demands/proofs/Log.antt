@@ -10,7 +10,7 @@ use lib.ListN.{take}
 use borrow.Author.Tests.{le-leb, lt-leb, leb-true, leb-false}
 use Rattle.delivery.specs.Sending.{range}
 use Rattle.delivery.specs.Run.{oldestAge, run}
-use Rattle.sender_spec.specs.State.{Block}
+use Rattle.sender_spec.specs.State.{SentBlock}
 use Rattle.sender_spec.specs.Packets.{recentRun}
 use Rattle.delivery.proofs.Ranges.{map-range-snoc}
 
@@ -22,9 +22,9 @@ age t a h = go (leb t (a + oldestAge)) refl
     go true e = let l : t ≤ a + oldestAge = leb-true t (a + oldestAge) e in rw (le-leb a t h, le-leb (t - a) oldestAge (omega arith))
     go false e = let l : a + oldestAge < t = leb-false t (a + oldestAge) e in rw (le-leb a t h, lt-leb (t - a) oldestAge (omega arith))
 
-module _ (f : ℕ → Block) where
+module _ (f : ℕ → SentBlock) where
   -- the blocks of the log before n, newest first, at most r of them
-  abbrev pub down : ℕ → ℕ → List Block
+  abbrev pub down : ℕ → ℕ → List SentBlock
   down zero r = []
   down (suc n) zero = []
   down (suc n) (suc r) = f n ∷ down n r

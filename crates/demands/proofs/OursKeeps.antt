@@ -13,11 +13,11 @@ use Rattle.packet_spec.specs.Header.{Any, typesBad}
 use Rattle.packet_spec.specs.Reading.{Content, holds, refused, reading}
 use Rattle.delivery.specs.Numbers.{wrapped}
 use Rattle.delivery.specs.Run.{Rules}
-use Rattle.sender_spec.specs.State.{Block, Settings, Progress, Sender, fresh}
+use Rattle.sender_spec.specs.State.{SentBlock, Settings, Progress, Sender, freshSender}
 use Rattle.sender_spec.specs.Settings.{settingsNumber}
 use Rattle.demands.specs.Ours.{ours}
 use Rattle.demands.specs.Rules.{IsPacket, KeepsRules}
-use Rattle.demands.specs.Sending.{Call, Written, primaryOf, writes, after, written, finally}
+use Rattle.demands.specs.Sending.{Call, Written, primarySent, writes, senderAfter, written, finally}
 use Rattle.demands.specs.Demand2.{ReadBack}
 use Rattle.demands.specs.Demand3.{rulesOf, packetAt, SpacedAfter}
 use Rattle.base.specs.Every.{Every}
@@ -30,7 +30,7 @@ use Rattle.demands.proofs.Demand2.{good-back}
 -- packets leave at least the buffering time apart
 pub spaced : (cs : List Call) (s : Sender) → SpacedAfter (s .progress .sent) (s .progress .last) (s .settings .buffering) (written ours s cs)
 spaced [] s = tt
-spaced (c ∷ cs) s = go (after ours s c) (writes ours s c) (move s c) (spaced cs (after ours s c))
+spaced (c ∷ cs) s = go (senderAfter ours s c) (writes ours s c) (move s c) (spaced cs (senderAfter ours s c))
   where
     passed : (x : Bool) (b r : Bool) → ((not x || b) && r) ≡ true → x ≡ true → b ≡ true
     passed true true r e h = refl
@@ -62,7 +62,7 @@ nothing-read t140 red c types e =
     omega arith
 
 -- element k of lists of packets that are the sender's, and that are read back
-module _ (R : ℕ) (small : R ≤ level) (first : ℕ) (f : ℕ → Block) (f-rises : (k : ℕ) → f k .at ≤ f (suc k) .at) where
+module _ (R : ℕ) (small : R ≤ level) (first : ℕ) (f : ℕ → SentBlock) (f-rises : (k : ℕ) → f k .at ≤ f (suc k) .at) where
   packet-at : (ws : List Written) (n k : ℕ) (d : Written) → Packets R small first f f-rises n ws → k < length ws
       → IsPacket (rules R small first f f-rises) (n + k) (getD ws k d .content)
   packet-at [] n k d h l = absurd (omega arith)
@@ -79,17 +79,17 @@ back-at x (w ∷ ws) (suc k) d h l = back-at x ws k d (h .1) (omega arith)
 
 module _ (x : Settings) (calls : List Call) (good : settingsNumber x ≡ 0) where
   abbrev pub ws : List Written
-  ws = written ours (fresh x) calls
+  ws = written ours (freshSender x) calls
 
   -- past the last packet the log has empty blocks at the last clock
-  abbrev pub beyond : Block
-  beyond = record { text = []; at = finally ours (fresh x) calls .clock }
+  abbrev pub beyond : SentBlock
+  beyond = record { text = []; at = finally ours (freshSender x) calls .clock }
 
-  abbrev pub log : ℕ → Block
-  log = logFrom (fresh x) calls beyond
+  abbrev pub log : ℕ → SentBlock
+  log = logFrom (freshSender x) calls beyond
 
   pub log-rises : (k : ℕ) → log k .at ≤ log (suc k) .at
-  log-rises = rises calls (fresh x) beyond (le-refl (beyond .at))
+  log-rises = rises calls (freshSender x) beyond (le-refl (beyond .at))
 
   pub small : x .level ≤ level
   small = settings-good x good .0
@@ -100,11 +100,11 @@ module _ (x : Settings) (calls : List Call) (good : settingsNumber x ≡ 0) wher
   abbrev ours-rules : Rules
   ours-rules = rules (x .level) small (x .sequence) log log-rises
 
-  start : At (x .level) small (x .sequence) log log-rises (fresh x) 0
+  start : At (x .level) small (x .sequence) log log-rises (freshSender x) 0
   start = record { level-is = refl; next-is = ap wrapped (sym (add-zero (x .sequence))); kept-is = refl }
 
   pub packets : Packets (x .level) small (x .sequence) log log-rises 0 ws
-  packets = follow (x .level) small (x .sequence) log log-rises calls (fresh x) 0 beyond start (λ i. ap log (zero-add i))
+  packets = follow (x .level) small (x .sequence) log log-rises calls (freshSender x) 0 beyond start (λ i. ap log (zero-add i))
 
   reads : (k : ℕ) (c : Content) → reading level Any (x .t140) (x .red) (packetAt ws k) ≡ holds c → IsPacket ours-rules k c
   reads k c e = go (ltb k (length ws)) refl
@@ -118,7 +118,7 @@ module _ (x : Settings) (calls : List Call) (good : settingsNumber x ≡ 0) wher
           let w = getD ws k none in
           let q : reading level Any (x .t140) (x .red) (w .packet) ≡ holds c =
           ap (reading level Any (x .t140) (x .red)) (sym (getD-map-inside (λ v. v .packet) ws k none [] h)) ∙ e in
-          let r : holds (w .content) ≡ holds c = sym (back-at x ws k none (good-back x calls (fresh x) refl (fresh-good x)) h) ∙ q in
+          let r : holds (w .content) ≡ holds c = sym (back-at x ws k none (good-back x calls (freshSender x) refl (fresh-good x)) h) ∙ q in
           let s : w .content ≡ c = cc in
           subst (IsPacket ours-rules k) s
           (subst (λ (j : ℕ). IsPacket ours-rules j (w .content)) (zero-add k) (packet-at (x .level) small (x .sequence) log log-rises ws 0 k none packets h))
@@ -129,11 +129,11 @@ module _ (x : Settings) (calls : List Call) (good : settingsNumber x ≡ 0) wher
           absurd (nothing-read (x .t140) (x .red) c types (ap (reading level Any (x .t140) (x .red)) (sym q) ∙ e))
 
   -- the rules as the demand has them
-  same-block : (k : ℕ) → log k .text ≡ getD (map primaryOf ws) k []
-  same-block k = sym (getD-map (λ (b : Block). b .text) (map blockOf ws) k beyond) ∙ ap (λ (l : List (List ℕ)). getD l k []) (map-map (λ (b : Block). b .text) blockOf ws)
+  same-block : (k : ℕ) → log k .text ≡ getD (map primarySent ws) k []
+  same-block k = sym (getD-map (λ (b : SentBlock). b .text) (map blockOf ws) k beyond) ∙ ap (λ (l : List (List ℕ)). getD l k []) (map-map (λ (b : SentBlock). b .text) blockOf ws)
 
   same-time : (k : ℕ) → log k .at ≡ getD (map (λ w. w .time) ws) k (beyond .at)
-  same-time k = sym (getD-map (λ (b : Block). b .at) (map blockOf ws) k beyond) ∙ ap (λ (l : List ℕ). getD l k (beyond .at)) (map-map (λ (b : Block). b .at) blockOf ws)
+  same-time k = sym (getD-map (λ (b : SentBlock). b .at) (map blockOf ws) k beyond) ∙ ap (λ (l : List ℕ). getD l k (beyond .at)) (map-map (λ (b : SentBlock). b .at) blockOf ws)
 
   same-rules : ours-rules ≡ rulesOf x ws (beyond .at)
   same-rules i = record { level = x .level; first = x .sequence; block = λ k. same-block k i; time = λ k. same-time k i }

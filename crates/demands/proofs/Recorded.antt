@@ -3,11 +3,11 @@ use Prim.Native.Nat.{ℕ}
 use mathlib.Core.Path.{_≡_, _∙_, refl, ap, sym}
 use mathlib.Core.List.{List, map}
 use Rattle.packet_spec.specs.Reading.{Content}
-use Rattle.delivery.specs.Core as core
-use Rattle.delivery.specs.Core.{sent}
-use Rattle.delivery.specs.Claim.{Near, expected}
+use Rattle.delivery.specs.internal.Core as core
+use Rattle.delivery.specs.internal.Core.{sent}
+use Rattle.delivery.specs.Claim.{Near, expectedRecord}
 use Rattle.delivery.specs.Run.{Rules, senderOf}
-use Rattle.receiver_spec.specs.Opening.{openingOf}
+use Rattle.receiver_spec.specs.Opening.{openReceiver}
 use Rattle.receiver_spec.specs.State.{freshReceiver, Receiver}
 use Rattle.receiver_spec.specs.Step.{stepOf}
 use Rattle.receiver_spec.specs.Record.{recordOf, acceptedOf}
@@ -22,12 +22,12 @@ pub is-sent : (rules : Rules) (k : ℕ) (c : Content) → IsPacket rules k c →
 is-sent rules k c w = λ i. record { sequence = w .sequence i; older = w .older i; primary = w .primary i }
 
 module _ (t140 red : ℕ) (rules : Rules) (packet : ℕ → List ℕ) (keeps : KeepsRules t140 red rules packet) where
-  pub recorded : openingOf t140 red .number ≡ 0
-      → (given : List (List ℕ)) (ks : List ℕ) → acceptedOf stepOf (openingOf t140 red .receiver) given ≡ map packet ks → Near (senderOf rules) ks
-      → recordOf stepOf (openingOf t140 red .receiver) given ≡ expected (senderOf rules) ks
+  pub recorded : openReceiver t140 red .number ≡ 0
+      → (given : List (List ℕ)) (ks : List ℕ) → acceptedOf stepOf (openReceiver t140 red .receiver) given ≡ map packet ks → Near (senderOf rules) ks
+      → recordOf stepOf (openReceiver t140 red .receiver) given ≡ expectedRecord (senderOf rules) ks
   recorded o given ks e near =
       let r = freshReceiver t140 red in
-      let f : openingOf t140 red .receiver ≡ r = receiver-opened t140 red o in
+      let f : openReceiver t140 red .receiver ≡ r = receiver-opened t140 red o in
       ap (λ (x : Receiver). recordOf stepOf x given) f
       ∙ same-record given r
       ∙ ap (core.recordFrom core.fresh) (same-packets t140 red (senderOf rules) packet (λ k c q. is-sent rules k c (keeps .reads k c q)) given r refl refl ks (sym (ap (λ (x : Receiver). acceptedOf stepOf x given) f) ∙ e))

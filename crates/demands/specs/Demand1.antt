@@ -12,7 +12,7 @@ use Rattle.packet_spec.specs.Header.{Expected}
 use Rattle.packet_spec.specs.Reading.{refused, reading}
 use Rattle.receiver_spec.specs.State.{openingChecks, zeroReceiver, freshReceiver, Receiver, sourceExpected}
 use Rattle.receiver_spec.specs.Answers.{refuses}
-use Rattle.sender_spec.specs.State.{Settings, Sender, fresh, zeroSender}
+use Rattle.sender_spec.specs.State.{Settings, Sender, freshSender, zeroSender}
 use Rattle.sender_spec.specs.Answers as answers
 use Rattle.sender_spec.specs.Settings.{settingsChecks}
 use Rattle.sender_spec.specs.Offering.{offerChecks}
@@ -35,7 +35,7 @@ pub record Demand1 (l : Line) : Type 0 where
   pub receiver-opened : (t140 red : ℕ) → l .openReceiver t140 red .number ≡ 0 → l .openReceiver t140 red .receiver ≡ freshReceiver t140 red
   pub receiver-refused : (t140 red n : ℕ) → l .openReceiver t140 red .number ≡ suc n → l .openReceiver t140 red .receiver ≡ zeroReceiver
   pub sender-number : (x : Settings) → l .openSender x .number ≡ numberBy (settingsChecks x)
-  pub sender-opened : (x : Settings) → l .openSender x .number ≡ 0 → l .openSender x .sender ≡ fresh x
+  pub sender-opened : (x : Settings) → l .openSender x .number ≡ 0 → l .openSender x .sender ≡ freshSender x
   pub sender-refused : (x : Settings) (n : ℕ) → l .openSender x .number ≡ suc n → l .openSender x .sender ≡ zeroSender
   -- a packet by itself is refused where the table says so, and only there
   pub read-number : (e : Expected) (t140 red : ℕ) (p : List ℕ) (n : ℕ) → (l .read e t140 red p ≡ refused n) ↔ (reading level e t140 red p ≡ refused n)

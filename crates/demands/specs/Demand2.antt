@@ -23,7 +23,7 @@ use Rattle.sender_spec.specs.Offering.{senderWith}
 use Rattle.sender_spec.specs.Packets.{due, packetBytes, afterPacket}
 use Rattle.sender_spec.specs.Clocking.{clockChecks}
 use Rattle.demands.specs.Line.{Line}
-use Rattle.demands.specs.Sending.{Call, Written, primaryOf, sentBy, typedBy, leftBy}
+use Rattle.demands.specs.Sending.{Call, Written, primarySent, sentBy, typedBy, leftBy}
 
 -- a packet is read, by every reader with the sender's payload types that expects its source, as what it was written as: marker,
 -- sequence, timestamp, source, older blocks with their offsets, primary; and a receiver with these types that has no source yet,
@@ -47,4 +47,4 @@ pub record Demand2 (l : Line) : Type 0 where
   pub read-back : (x : Settings) (calls : List Call) → l .openSender x .number ≡ 0 → Every (ReadBack l x) (sentBy l x calls)
   -- and the primaries, joined, and then what waits are the texts of the accepted offers: nothing is lost, doubled or moved
   pub as-typed : (x : Settings) (calls : List Call) → l .openSender x .number ≡ 0
-      → joined (map primaryOf (sentBy l x calls)) ++ leftBy l x calls .waiting ≡ typedBy l x calls
+      → joined (map primarySent (sentBy l x calls)) ++ leftBy l x calls .waiting ≡ typedBy l x calls

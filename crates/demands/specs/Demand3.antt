@@ -6,13 +6,13 @@ use mathlib.Core.Bool.{Bool, true, false}
 use lib.ListN.{getD}
 use Rattle.packet_spec.specs.Redundancy.{joined}
 use Rattle.delivery.specs.Record.{block}
-use Rattle.delivery.specs.Claim.{Near, expected}
+use Rattle.delivery.specs.Claim.{Near, expectedRecord}
 use Rattle.delivery.specs.Run.{Rules, senderOf}
 use Rattle.receiver_spec.specs.State.{Receiver}
 use Rattle.receiver_spec.specs.Record.{blocksGiven, recordOf, acceptedOf}
 use Rattle.sender_spec.specs.State.{Settings, Sender}
 use Rattle.demands.specs.Line.{Line}
-use Rattle.demands.specs.Sending.{Call, Written, primaryOf, sentBy, leftBy}
+use Rattle.demands.specs.Sending.{Call, Written, primarySent, sentBy, leftBy}
 use Rattle.demands.specs.Rules.{KeepsRules}
 
 -- the rules that packets were sent by: block k is the primary of packet k, time k the clock of its call; past the last packet
@@ -21,7 +21,7 @@ abbrev pub rulesOf : Settings → List Written → ℕ → Rules
 rulesOf x ws latest = record {
   level = x .level;
   first = x .sequence;
-  block = λ k. getD (map primaryOf ws) k [];
+  block = λ k. getD (map primarySent ws) k [];
   time = λ k. getD (map (λ w. w .time) ws) k latest;
 }
 
@@ -37,7 +37,7 @@ SpacedAfter before last b (w ∷ ws) = (before ≡ true → last + b ≤ w .time
 -- packets given once each and in order to a receiver: all are accepted, and the record is their primaries, with no mark
 pub record Arrives (l : Line) (r : Receiver) (ws : List Written) : Type 0 where
   pub accepted : acceptedOf (l .step) r (map (λ w. w .packet) ws) ≡ map (λ w. w .packet) ws
-  pub record-is : recordOf (l .step) r (map (λ w. w .packet) ws) ≡ map block (map primaryOf ws)
+  pub record-is : recordOf (l .step) r (map (λ w. w .packet) ws) ≡ map block (map primarySent ws)
 
 pub record Demand3 (l : Line) : Type 0 where
   -- whatever list of packets is given to the receiver of an accepted opening, refused ones included: where the accepted ones are
@@ -46,7 +46,7 @@ pub record Demand3 (l : Line) : Type 0 where
   pub recorded : (t140 red : ℕ) → l .openReceiver t140 red .number ≡ 0
       → (rules : Rules) (packet : ℕ → List ℕ) → KeepsRules t140 red rules packet
       → (given : List (List ℕ)) (ks : List ℕ) → acceptedOf (l .step) (l .openReceiver t140 red .receiver) given ≡ map packet ks → Near (senderOf rules) ks
-      → recordOf (l .step) (l .openReceiver t140 red .receiver) given ≡ expected (senderOf rules) ks
+      → recordOf (l .step) (l .openReceiver t140 red .receiver) given ≡ expectedRecord (senderOf rules) ks
   -- at every step the bytes of the blocks given, joined, are the text handed out
   pub text : (r : Receiver) (p : List ℕ) → l .handOut p (l .step r p .answer) ≡ joined (blocksGiven r p (l .step r p .answer))
   -- after every list of offers and clock calls, refused ones included, from an accepted opening, our sender keeps the rules,

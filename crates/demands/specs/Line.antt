@@ -6,9 +6,9 @@ use Rattle.text_spec.specs.Utf8.{Text}
 use Rattle.packet_spec.specs.Header.{Expected}
 use Rattle.packet_spec.specs.Reading.{Content, Read}
 use Rattle.receiver_spec.specs.State.{Receiver}
-use Rattle.receiver_spec.specs.Answers.{Opening, Answered, Step}
+use Rattle.receiver_spec.specs.Answers.{Opening, StepAnswer, Step}
 use Rattle.sender_spec.specs.State.{Settings, Sender}
-use Rattle.sender_spec.specs.Answers.{Numbered, ClockResult}
+use Rattle.sender_spec.specs.Answers.{CallResult, ClockResult}
 
 pub record Line : Type 0 where
   -- what bytes are as text
@@ -19,8 +19,8 @@ pub record Line : Type 0 where
   -- a receiver's opening by T140 and RED, its step, and the text that the step hands out of a packet
   pub openReceiver : ℕ → ℕ → Opening
   pub step : Receiver → List ℕ → Step
-  pub handOut : List ℕ → Answered → List ℕ
+  pub handOut : List ℕ → StepAnswer → List ℕ
   -- a sender's opening, an offer of text at a clock, and a clock call with a lent space
-  pub openSender : Settings → Numbered
-  pub offer : Sender → ℕ → List ℕ → Numbered
+  pub openSender : Settings → CallResult
+  pub offer : Sender → ℕ → List ℕ → CallResult
   pub clock : Sender → ℕ → List ℕ → ClockResult

@@ -6,6 +6,7 @@ use mathlib.Core.List.{List, [], _∷_, _++_}
 use mathlib.Core.Bool.{Bool, true, false}
 use lib.IntN.{ℤ, pos, negsuc}
 use lib.ListN.{replicate, take}
+use Rattle.base.specs.Every.{Every}
 use Rattle.packet_spec.specs.Limits.{level, longest}
 use Rattle.packet_spec.specs.Header.{Any}
 use Rattle.packet_spec.specs.Redundancy.{Block}
@@ -13,65 +14,61 @@ use Rattle.packet_spec.specs.Reading.{Read, holds, refused, reading}
 use Rattle.receiver_spec.specs.Opening as receiver
 use Rattle.receiver_spec.specs.State.{Receiver, readBy}
 use Rattle.receiver_spec.specs.Step.{stepOf, textGiven}
-use Rattle.receiver_spec.specs.Answers.{gives, isLate, refuses, Answered}
+use Rattle.receiver_spec.specs.Answers.{gives, isLate, refuses, StepAnswer}
 use Rattle.sender_spec.specs.State as state
 use Rattle.sender_spec.specs.State.{Settings, Sender}
 use Rattle.sender_spec.specs.Answers as answers
-use Rattle.sender_spec.specs.Calls.{openingOf, offerOf, clockOf}
+use Rattle.sender_spec.specs.Calls.{openSender, offerOf, clockOf}
 
 pub data Test : Type 0 where
   T1 T2 T3 T4 T5 T6 T7 T8 T9 T10 T11 T12 : Test
 
-pub data Call : Type 0 where
+pub data TestCall : Type 0 where
   -- on a receiver, a packet
-  step : Receiver → List ℕ → Call
+  step : Receiver → List ℕ → TestCall
   -- on a sender at a clock, a text
-  offer : Sender → ℕ → List ℕ → Call
+  offer : Sender → ℕ → List ℕ → TestCall
   -- on a sender at a clock, with space for the longest packet
-  clock : Sender → ℕ → Call
+  clock : Sender → ℕ → TestCall
 
 pub data Outcome : Type 0 where
   -- what the packet is read as, the answer, the text, and the receiver afterwards
-  steps : Read → Answered → List ℕ → Receiver → Outcome
+  steps : Read → StepAnswer → List ℕ → Receiver → Outcome
   -- the number, and the sender afterwards
   offers : ℕ → Sender → Outcome
   -- the answer, what the packet is read as, where one was written, and the sender afterwards
-  clocks : answers.Answered → List Read → Sender → Outcome
+  clocks : answers.ClockAnswer → List Read → Sender → Outcome
 
 -- the packet that a clock call wrote, read by a reader with the same payload types
-abbrev pub readBack : answers.Answered → List ℕ → List Read
+abbrev pub readBack : answers.ClockAnswer → List ℕ → List Read
 readBack (answers.refused n) lent = []
 readBack answers.quiet lent = []
 readBack (answers.sent n) lent = reading level Any 98 100 (take n lent) ∷ []
 
-abbrev pub outcomeOf : Call → Outcome
+abbrev pub outcomeOf : TestCall → Outcome
 outcomeOf (step r p) = steps (readBy r p) (stepOf r p .answer) (textGiven p (stepOf r p .answer)) (stepOf r p .receiver)
 outcomeOf (offer s t x) = offers (offerOf s t x .number) (offerOf s t x .sender)
 outcomeOf (clock s t) =
     let c = clockOf s t (replicate longest 0xEE) in
     clocks (c .answer) (readBack (c .answer) (c .lent)) (c .sender)
 
-pub record Row : Type 0 where
+pub record TestRow : Type 0 where
   pub test : Test
-  pub call : Call
+  pub call : TestCall
   pub outcome : Outcome
 
-abbrev pub row : Test → Call → Outcome → Row
-row test call outcome = record { test = test; call = call; outcome = outcome }
-
-abbrev pub Holds : List Row → Type 0
-Holds [] = Unit {0}
-Holds (r ∷ rs) = (outcomeOf (r .call) ≡ r .outcome) × Holds rs
+abbrev pub testRow : Test → TestCall → Outcome → TestRow
+testRow name call outcome = record { test = name; call = call; outcome = outcome }
 
 -- a receiver just opened, and one that accepted a packet of this source and expects a number
-abbrev pub fresh : Receiver
-fresh = receiver.openingOf 98 100 .receiver
+abbrev pub justOpened : Receiver
+justOpened = receiver.openReceiver 98 100 .receiver
 
 abbrev pub expecting : ℕ → ℕ → Receiver
 expecting source n = record { t140 = 98; red = 100; hasSource = true; source = source; expected = n }
 
 -- a step's answer: loss, distance, number of older blocks, number of blocks given, and where these start and end
-abbrev pub given : ℕ → ℤ → ℕ → ℕ → ℕ → ℕ → Answered
+abbrev pub given : ℕ → ℤ → ℕ → ℕ → ℕ → ℕ → StepAnswer
 given marks z older blocks from to = gives (record { loss = marks; distance = z; older = older; given = blocks; from = from; to = to })
 
 -- a packet as it is read: marker, sequence number, timestamp, source, older blocks, primary
@@ -121,7 +118,7 @@ abbrev pub settings : ℕ → Settings
 settings R = record { level = R; buffering = 300; t140 = 98; red = 100; sequence = 65535; timestamp = 1000; source = 7 }
 
 abbrev pub opened : ℕ → Sender
-opened R = openingOf (settings R) .sender
+opened R = openSender (settings R) .sender
 
 abbrev pub waitingA : ℕ → Sender
 waitingA R = record {
@@ -133,7 +130,7 @@ waitingA R = record {
   progress = record { sent = false; last = 0; lastText = 0; next = 65535 };
 }
 
-abbrev pub idle : ℕ → ℕ → List state.Block → ℕ → ℕ → Sender
+abbrev pub idle : ℕ → ℕ → List state.SentBlock → ℕ → ℕ → Sender
 idle R t kept last next = record {
   settings = settings R;
   clock = t;
@@ -145,7 +142,7 @@ idle R t kept last next = record {
 
 -- a block sent at a clock
 infixl 68 _sentAt_
-abbrev pub _sentAt_ : List ℕ → ℕ → state.Block
+abbrev pub _sentAt_ : List ℕ → ℕ → state.SentBlock
 x sentAt t = record { text = x; at = t }
 
 -- T11's and T12's sender, with this latest clock: behind the packet at 0, behind one more at 300, and behind one more at 600
@@ -158,50 +155,50 @@ afterTwo t = idle 2 t ([] sentAt 300 ∷ A sentAt 0 ∷ []) 300 1
 abbrev pub afterThree : ℕ → Sender
 afterThree t = idle 2 t ([] sentAt 600 ∷ [] sentAt 300 ∷ A sentAt 0 ∷ []) 600 2
 
-unfoldable pub table : List Row
+unfoldable pub table : List TestRow
 table =
-    row T1 (step fresh [])
-    (steps (refused 10) (refuses 10) [] fresh)
-    ∷ row T2 (step fresh (0x80 ∷ 0x62 ∷ replicate 10 0))
+    testRow T1 (step justOpened [])
+    (steps (refused 10) (refuses 10) [] justOpened)
+    ∷ testRow T2 (step justOpened (0x80 ∷ 0x62 ∷ replicate 10 0))
     (steps (read no-M 0 0 0 [] []) (given 0 (pos 0) 0 1 12 12) [] (expecting 0 1))
-    ∷ row T3 (step fresh whole)
+    ∷ testRow T3 (step justOpened whole)
     (steps (read no-M 5 1000 0x11223344 (ago 300 A ∷ []) []) (given 0 (pos 0) 1 2 17 18) A (expecting 0x11223344 6))
-    ∷ row T4 (step (expecting 0x11223344 6) whole)
+    ∷ testRow T4 (step (expecting 0x11223344 6) whole)
     (steps (read no-M 5 1000 0x11223344 (ago 300 A ∷ []) []) (isLate (negsuc 0)) [] (expecting 0x11223344 6))
-    ∷ row T5 (step (expecting 0 6) (redundant 0 9 two))
+    ∷ testRow T5 (step (expecting 0 6) (redundant 0 9 two))
     (steps (read no-M 9 0 0 (ago 600 A ∷ ago 300 B ∷ []) C) (given 1 (pos 3) 2 3 21 24) (A ++ B ++ C) (expecting 0 10))
-    ∷ row T6 (step (expecting 0 65535) (redundant 0 0 one))
+    ∷ testRow T6 (step (expecting 0 65535) (redundant 0 0 one))
     (steps (read no-M 0 0 0 (ago 300 A ∷ []) []) (given 0 (pos 1) 1 2 17 18) A (expecting 0 1))
-    ∷ row T7 (step (expecting 0 6) (plain 0x80 0x05 []))
+    ∷ testRow T7 (step (expecting 0 6) (plain 0x80 0x05 []))
     (steps (read no-M 32773 0 0 [] []) (given 32767 (pos 32767) 0 1 12 12) [] (expecting 0 32774))
-    ∷ row T8 (step (expecting 0 6) (plain 0x80 0x06 []))
+    ∷ testRow T8 (step (expecting 0 6) (plain 0x80 0x06 []))
     (steps (read no-M 32774 0 0 [] []) (isLate (negsuc 32767)) [] (expecting 0 6))
-    ∷ row T9 (step fresh (plain 0 0 (0xED ∷ 0xA0 ∷ 0x80 ∷ [])))
-    (steps (refused 21) (refuses 21) [] fresh)
-    ∷ row T10 (step fresh (plain 0 0 (0xF4 ∷ 0x8F ∷ 0xBF ∷ 0xBF ∷ [])))
+    ∷ testRow T9 (step justOpened (plain 0 0 (0xED ∷ 0xA0 ∷ 0x80 ∷ [])))
+    (steps (refused 21) (refuses 21) [] justOpened)
+    ∷ testRow T10 (step justOpened (plain 0 0 (0xF4 ∷ 0x8F ∷ 0xBF ∷ 0xBF ∷ [])))
     (steps (read no-M 0 0 0 [] (0xF4 ∷ 0x8F ∷ 0xBF ∷ 0xBF ∷ [])) (given 0 (pos 0) 0 1 12 16) (0xF4 ∷ 0x8F ∷ 0xBF ∷ 0xBF ∷ []) (expecting 0 1))
-    ∷ row T11 (offer (opened 2) 0 A)
+    ∷ testRow T11 (offer (opened 2) 0 A)
     (offers 0 (waitingA 2))
-    ∷ row T11 (clock (waitingA 2) 0)
+    ∷ testRow T11 (clock (waitingA 2) 0)
     (clocks (answers.sent 14) (read M 65535 1000 7 [] A ∷ []) (afterOne 2 0))
-    ∷ row T11 (clock (afterOne 2 0) 299)
+    ∷ testRow T11 (clock (afterOne 2 0) 299)
     (clocks answers.quiet [] (afterOne 2 299))
-    ∷ row T11 (clock (afterOne 2 299) 300)
+    ∷ testRow T11 (clock (afterOne 2 299) 300)
     (clocks (answers.sent 18) (read no-M 0 1300 7 (ago 300 A ∷ []) [] ∷ []) (afterTwo 300))
-    ∷ row T11 (clock (afterTwo 300) 600)
+    ∷ testRow T11 (clock (afterTwo 300) 600)
     (clocks (answers.sent 22) (read no-M 1 1600 7 (ago 600 A ∷ ago 300 [] ∷ []) [] ∷ []) (afterThree 600))
-    ∷ row T11 (clock (afterThree 600) 900)
+    ∷ testRow T11 (clock (afterThree 600) 900)
     (clocks answers.quiet [] (afterThree 900))
-    ∷ row T12 (offer (opened 1) 0 A)
+    ∷ testRow T12 (offer (opened 1) 0 A)
     (offers 0 (waitingA 1))
-    ∷ row T12 (clock (waitingA 1) 0)
+    ∷ testRow T12 (clock (waitingA 1) 0)
     (clocks (answers.sent 14) (read M 65535 1000 7 [] A ∷ []) (afterOne 1 0))
-    ∷ row T12 (clock (afterOne 1 0) 16383)
+    ∷ testRow T12 (clock (afterOne 1 0) 16383)
     (clocks (answers.sent 18) (read no-M 0 17383 7 (ago 16383 A ∷ []) [] ∷ []) (idle 1 16383 ([] sentAt 16383 ∷ A sentAt 0 ∷ []) 16383 1))
     -- "at 16,384 instead"
-    ∷ row T12 (clock (afterOne 1 0) 16384)
+    ∷ testRow T12 (clock (afterOne 1 0) 16384)
     (clocks answers.quiet [] (afterOne 1 16384))
     ∷ []
 
 abbrev pub LineTests : Type 0
-LineTests = Holds table
+LineTests = Every (λ (r : TestRow). outcomeOf (r .call) ≡ r .outcome) table

@@ -13,10 +13,10 @@ ours = record {
   text = textOf;
   read = reading level;
   block = blockAt;
-  openReceiver = receiver.openingOf;
+  openReceiver = receiver.openReceiver;
   step = stepOf;
   handOut = textGiven;
-  openSender = sender.openingOf;
+  openSender = sender.openSender;
   offer = offerOf;
   clock = clockOf;
 }

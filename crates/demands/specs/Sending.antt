@@ -5,7 +5,7 @@ use lib.ListN.{take}
 use Rattle.packet_spec.specs.Reading.{Content}
 use Rattle.sender_spec.specs.State.{Settings, Sender}
 use Rattle.sender_spec.specs.Answers as answers
-use Rattle.sender_spec.specs.Answers.{Answered}
+use Rattle.sender_spec.specs.Answers.{ClockAnswer}
 use Rattle.sender_spec.specs.Packets.{contentOf}
 use Rattle.demands.specs.Line.{Line}
 
@@ -20,11 +20,11 @@ pub record Written : Type 0 where
   pub time : ℕ
   pub content : Content
 
-abbrev pub primaryOf : Written → List ℕ
-primaryOf w = w .content .primary
+abbrev pub primarySent : Written → List ℕ
+primarySent w = w .content .primary
 
 -- the first n bytes of the lent space after a call that answered n
-abbrev pub writtenBy : Answered → List ℕ → ℕ → Content → List Written
+abbrev pub writtenBy : ClockAnswer → List ℕ → ℕ → Content → List Written
 writtenBy (answers.refused n) lent t c = []
 writtenBy answers.quiet lent t c = []
 writtenBy (answers.sent n) lent t c = record { packet = take n lent; time = t; content = c } ∷ []
@@ -43,23 +43,23 @@ module _ (l : Line) where
   offers s (offer t x) = acceptedText (l .offer s t x .number) x
   offers s (clock t p) = []
 
-  abbrev pub after : Sender → Call → Sender
-  after s (offer t x) = l .offer s t x .sender
-  after s (clock t p) = l .clock s t p .sender
+  abbrev pub senderAfter : Sender → Call → Sender
+  senderAfter s (offer t x) = l .offer s t x .sender
+  senderAfter s (clock t p) = l .clock s t p .sender
 
   -- each call gets the sender that the last call returned: what the list writes, the texts of its accepted offers, joined, and
   -- the sender that it leaves
   abbrev pub written : Sender → List Call → List Written
   written s [] = []
-  written s (c ∷ cs) = writes s c ++ written (after s c) cs
+  written s (c ∷ cs) = writes s c ++ written (senderAfter s c) cs
 
   abbrev pub typed : Sender → List Call → List ℕ
   typed s [] = []
-  typed s (c ∷ cs) = offers s c ++ typed (after s c) cs
+  typed s (c ∷ cs) = offers s c ++ typed (senderAfter s c) cs
 
   abbrev pub finally : Sender → List Call → Sender
   finally s [] = s
-  finally s (c ∷ cs) = finally (after s c) cs
+  finally s (c ∷ cs) = finally (senderAfter s c) cs
 
   -- the same from an opening on
   abbrev pub sentBy : Settings → List Call → List Written

@@ -16,14 +16,14 @@ use Rattle.base.proofs.PartOf.{part-mid}
 use Rattle.packet.specs.declared.Refusal.{Refusal}
 use Rattle.receiver.specs.declared.Answer.{Answer}
 use Rattle.receiver.specs.declared.Answer.the-variants.{Refused, Late, Forward}
-use Rattle.receiver.specs.View.{answered}
+use Rattle.receiver.specs.View.{stepAnswer}
 use Rattle.receiver_spec.specs.Step.{textGiven}
-use Rattle.receiver_spec.specs.Answers.{gives, isLate, refuses, Answered}
+use Rattle.receiver_spec.specs.Answers.{gives, isLate, refuses, StepAnswer}
 use Rattle.receiver_spec.specs.Record.{lossOf}
 use Rattle.receiver_spec.proofs.Within.{Within}
 use Rattle.journal_spec.specs.Contents.{longestPacket}
 use Rattle.due.specs.declared.Due.{Due}
-use Rattle.due.specs.Due.{emptyDue, lineDue, dueOf, noneDue, within, textDue}
+use Rattle.due.specs.Due.{emptyDue, lineDue, dueOf, noneDue, dueWithin, textDue}
 use Rattle.due.proofs.Giving.{lies, text-length}
 
 pub none-text : (p : List ℕ) → textDue emptyDue p ≡ []
@@ -34,12 +34,12 @@ module _ (p : List ℕ) (size : ℕ) (small : size ≤ longestPacket) (long : lo
   front : length (take size p) ≡ size
   front = length-take-le size p (omega arith)
 
-  pub answer-within : (a : Answered) → Within (take size p) a → within (dueOf a) ≡ true
+  pub answer-within : (a : StepAnswer) → Within (take size p) a → dueWithin (dueOf a) ≡ true
   answer-within (refuses n) w = refl
   answer-within (isLate z) w = refl
   answer-within (gives g) w = both (le-leb (g .from) (g .to) (w .0)) (le-leb (g .to) longestPacket (omega (arith, w .1, front)))
 
-  pub answer-text : (a : Answered) → Within (take size p) a → textDue (dueOf a) p ≡ textGiven (take size p) a
+  pub answer-text : (a : StepAnswer) → Within (take size p) a → textDue (dueOf a) p ≡ textGiven (take size p) a
   answer-text (refuses n) w = none-text p
   answer-text (isLate z) w = none-text p
   answer-text (gives g) w =
@@ -51,7 +51,7 @@ module _ (p : List ℕ) (size : ℕ) (small : size ≤ longestPacket) (long : lo
       ∙ ap (take (t - f)) (drop-take f size p)
       ∙ take-take (t - f) (size - f) (drop f p) (omega arith))
 
-pub answer-marks : (a : Answered) → dueOf a .marks ≡ lossOf a
+pub answer-marks : (a : StepAnswer) → dueOf a .marks ≡ lossOf a
 answer-marks (refuses n) = refl
 answer-marks (isLate z) = refl
 answer-marks (gives g) = refl
@@ -64,7 +64,7 @@ line-text line p n e =
     ∙ ap (λ (k : ℕ). take k (over line p)) z
     ∙ take-at line (drop (length line) p) n (sym e)
 
-pub line-within : (n : ℕ) → n ≤ longestPacket → within (lineDue n) ≡ true
+pub line-within : (n : ℕ) → n ≤ longestPacket → dueWithin (lineDue n) ≡ true
 line-within n h = both (le-leb 0 n (omega arith)) (le-leb n longestPacket h)
 
 none-left : (f t : ℕ) → f ≤ t → leb t f ≡ eqb (t - f) 0
@@ -77,16 +77,16 @@ none-left f t h = go (leb t f) refl
     go true e = let x : t ≤ f = leb-true t f e in sym (eq-eqb (t - f) 0 (omega arith))
     go false e = sym (ne-eqb (t - f) 0 (λ z. tie z (leb-false t f e)))
 
-pub none-is : (d : Due) (p : List ℕ) → within d ≡ true → longestPacket ≤ length p → noneDue d ≡ (eqb (d .marks) 0 && eqb (length (textDue d p)) 0)
+pub none-is : (d : Due) (p : List ℕ) → dueWithin d ≡ true → longestPacket ≤ length p → noneDue d ≡ (eqb (d .marks) 0 && eqb (length (textDue d p)) 0)
 none-is d p ok long =
     ap (λ (b : Bool). eqb (d .marks) 0 && b)
     (none-left (d .from) (d .to) (lies d p ok long .0) ∙ ap (λ (n : ℕ). eqb n 0) (sym (text-length d p ok long)))
 
-pub forward-due : (a : Answer) (n : ℕ) (z : ℤ) (o g f t : ℕ) → a ≡ Forward n z o g f t → record { marks = n; from = f; to = t } ≡ dueOf (answered a)
+pub forward-due : (a : Answer) (n : ℕ) (z : ℤ) (o g f t : ℕ) → a ≡ Forward n z o g f t → record { marks = n; from = f; to = t } ≡ dueOf (stepAnswer a)
 forward-due a n z o g f t e = rw e
 
-pub refused-due : (a : Answer) (n : Refusal) → a ≡ Refused n → emptyDue ≡ dueOf (answered a)
+pub refused-due : (a : Answer) (n : Refusal) → a ≡ Refused n → emptyDue ≡ dueOf (stepAnswer a)
 refused-due a n e = rw e
 
-pub late-due : (a : Answer) (z : ℤ) → a ≡ Late z → emptyDue ≡ dueOf (answered a)
+pub late-due : (a : Answer) (z : ℤ) → a ≡ Late z → emptyDue ≡ dueOf (stepAnswer a)
 late-due a z e = rw e

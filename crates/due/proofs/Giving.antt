@@ -17,7 +17,7 @@ use Rattle.journal_spec.specs.Contents.{longestPacket}
 use Rattle.printing.specs.Fitting.{marksFitting, textFitting, dueFitting}
 use Rattle.printing.proofs.Fitting.{fitting-length, fitting-fits}
 use Rattle.due.specs.declared.Due.{Due}
-use Rattle.due.specs.Due.{within, textDue, leftOf}
+use Rattle.due.specs.Due.{dueWithin, textDue, leftOf}
 
 part-short : (f t : ℕ) (p : List ℕ) → length (part f t p) ≤ t - f
 part-short f t p =
@@ -50,7 +50,7 @@ module _ (d : Due) (p t x : List ℕ) (te : t ≡ textDue d p) (m k : ℕ)
       )
 
 -- text that lies within the longest packet lies within the lent one
-module _ (d : Due) (p : List ℕ) (ok : within d ≡ true) (long : longestPacket ≤ length p) where
+module _ (d : Due) (p : List ℕ) (ok : dueWithin d ≡ true) (long : longestPacket ≤ length p) where
   pub lies : (d .from ≤ d .to) × (d .to ≤ longestPacket)
   lies = (
     leb-true (d .from) (d .to) (and-left (leb (d .from) (d .to)) (leb (d .to) longestPacket) ok),
@@ -70,7 +70,7 @@ module _ (d : Due) (p : List ℕ) (ok : within d ≡ true) (long : longestPacket
     few : d .from + k ≤ d .to
     few = omega (arith, fitting-fits (d .marks) (textDue d p) n, text-length, lies)
 
-    pub left-within : within (leftOf d p n) ≡ true
+    pub left-within : dueWithin (leftOf d p n) ≡ true
     left-within = both (le-leb (d .from + k) (d .to) few) (le-leb (d .to) longestPacket (lies .1))
 
     pub left-text : textDue (leftOf d p n) p ≡ drop k (textDue d p)

@@ -4,7 +4,7 @@ use mathlib.Core.Bool.{Bool, _&&_}
 use mathlib.Core.List.{List}
 use lib.Dec.{leb, eqb}
 use Rattle.base.specs.Arrays.{part}
-use Rattle.receiver_spec.specs.Answers.{gives, isLate, refuses, Answered}
+use Rattle.receiver_spec.specs.Answers.{gives, isLate, refuses, StepAnswer}
 use Rattle.journal_spec.specs.Contents.{longestPacket}
 use Rattle.printing.specs.Fitting.{marksFitting, textFitting}
 use Rattle.due.specs.declared.Due.{Due}
@@ -17,7 +17,7 @@ abbrev pub lineDue : ℕ → Due
 lineDue n = record { marks = 0; from = 0; to = n }
 
 -- the blocks lost are marks
-abbrev pub dueOf : Answered → Due
+abbrev pub dueOf : StepAnswer → Due
 dueOf (refuses n) = emptyDue
 dueOf (isLate z) = emptyDue
 dueOf (gives g) = record { marks = g .loss; from = g .from; to = g .to }
@@ -25,8 +25,8 @@ dueOf (gives g) = record { marks = g .loss; from = g .from; to = g .to }
 abbrev pub noneDue : Due → Bool
 noneDue d = eqb (d .marks) 0 && leb (d .to) (d .from)
 
-abbrev pub within : Due → Bool
-within d = leb (d .from) (d .to) && leb (d .to) longestPacket
+abbrev pub dueWithin : Due → Bool
+dueWithin d = leb (d .from) (d .to) && leb (d .to) longestPacket
 
 abbrev pub textDue : Due → List ℕ → List ℕ
 textDue d p = part (d .from) (d .to) p

@@ -2,9 +2,9 @@
 ghost use mathlib.Core.Path.{_≡_};
 ghost use lib.ListN.{length};
 ghost use Rattle.base.specs.Arrays.{over};
-ghost use Rattle.receiver.specs.View.{answered};
+ghost use Rattle.receiver.specs.View.{stepAnswer};
 ghost use Rattle.printing.specs.Fitting.{dueFitting};
-ghost use Rattle.due.specs.Due.{emptyDue, lineDue, dueOf, noneDue, within, textDue, leftOf};
+ghost use Rattle.due.specs.Due.{emptyDue, lineDue, dueOf, noneDue, dueWithin, textDue, leftOf};
 use marks::LossMark;
 use parts::Part;
 use receiver::Answer;
@@ -47,7 +47,7 @@ impl Due {
 
     // What the answer to a packet gives.
     pub fn of(answer: Answer) -> Due
-        ensures { λ r. ⌜ r ≡ dueOf (answered answer) ⌝ }
+        ensures { λ r. ⌜ r ≡ dueOf (stepAnswer answer) ⌝ }
     {
         match answer {
             Answer::Forward {
@@ -78,7 +78,7 @@ impl Due {
 
     // Whether the text lies within the longest packet.
     pub fn is_within(self) -> bool
-        ensures { λ r. ⌜ r ≡ within self ⌝ }
+        ensures { λ r. ⌜ r ≡ dueWithin self ⌝ }
     {
         if self.to < self.from {
             return false;

@@ -24,7 +24,7 @@ use Rattle.receiver.specs.View.{receiverOf}
 use Rattle.receiver.proofs.Receiver as T
 use Rattle.receiver.proofs.Receiver.Laws as T′
 use Rattle.boundary.specs.declared.ReceiverRecord.{ReceiverRecord}
-use Rattle.boundary.specs.Receiving.{recordOf}
+use Rattle.boundary.specs.Receiving.{lentRecord}
 use Rattle.boundary.proofs.ReceiverRecord as R
 use Rattle.boundary.proofs.ReceiverRecord.Laws as R′
 use Rattle.boundary.proofs.record_of as record-of
@@ -49,9 +49,9 @@ module _ {M : Type 1} (𝓤 : URA M) (H : Heap 𝓤) (A : Atoms 𝓤) (mem : Mem
 module _ {M : Type 1} {𝓤 : URA M} {H : Heap 𝓤} {A : Atoms 𝓤} {K : Type 0} {W : Given 𝓤 H A} {Γ : List (Item 𝓤)} {C : Calls 𝓤 H} {Λ : Loops 𝓤 H} {E : Env 𝓤 H} {xs : List Opd} {d : Place} {rest : Body} {q : Post 𝓤 H} where
   pub recorded : K → (mem : Memory → SProp 𝓤) (run : Routine → Fun 𝓤) → FmC 𝓤 H (W .laws) C → Triple 𝓤 (C #boundary·record-of) (RecordOf 𝓤 H A mem run) → (x : Receiver) → Known receivers x
       → Opds K W (raw (RecordOf 𝓤 H A mem run .pre (asked 𝓤 H A mem run x)) ∷ Γ) E xs (receivers .val x ∷ [])
-      → ((g : ReceiverRecord) → g ≡ recordOf (receiverOf x) → Known records g → Seq K W Γ (lands C Λ E d (records .val g) rest q))
+      → ((g : ReceiverRecord) → g ≡ lentRecord (receiverOf x) → Known records g → Seq K W Γ (lands C Λ E d (records .val g) rest q))
       → Seq K W Γ (runs C Λ E (seq (call #boundary·record-of xs d) rest) q)
   recorded t mem run fm known x is os k =
       use0 W (raw (RecordOf 𝓤 H A mem run .pre (asked 𝓤 H A mem run x))) (asks 𝓤 H A mem run W x is) $
       calls-at t fm (RecordOf 𝓤 H A mem run) known (asked 𝓤 H A mem run x) os (λ w.
-      returned records t (‵ ftrue) (lasts record-of.ended tt (x, tt)) (λ g _. g ≡ recordOf (receiverOf x)) (id⊢ 𝓤 _) (λ g _ e was. drop t $ drop t $ k g e was))
+      returned records t (‵ ftrue) (lasts record-of.ended tt (x, tt)) (λ g _. g ≡ lentRecord (receiverOf x)) (id⊢ 𝓤 _) (λ g _ e was. drop t $ drop t $ k g e was))

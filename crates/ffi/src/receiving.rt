@@ -1,10 +1,10 @@
 // The receiver for C and Rust callers, who lend its record by a pointer. All zeros are a receiver too: it refuses every
 // packet.
 ghost use mathlib.Core.Path.{_≡_};
-ghost use Rattle.receiver_spec.specs.Opening.{openingOf};
+ghost use Rattle.receiver_spec.specs.Opening.{openReceiver};
 ghost use Rattle.receiver_spec.specs.Step.{stepOf};
 ghost use Rattle.receiver_spec.specs.Marks.{marksWritten, marksOver};
-ghost use Rattle.boundary.specs.Receiving.{heldIn, recordOf, stepNumber, stepBehind, recordBehind};
+ghost use Rattle.boundary.specs.Receiving.{heldIn, lentRecord, stepNumber, stepBehind, receiverBehind};
 use boundary::ReceiverRecord;
 use boundary::Step;
 use receiver::Receiver;
@@ -12,7 +12,7 @@ use receiver::Receiver;
 // Opens a receiver in the record lent: 0, or the refusal's number and a record of all zeros.
 #[no_mangle]
 pub extern "C" fn stewpigeon_receiver_open(receiver: &mut ReceiverRecord, t140: u8, red: u8) -> u8
-    ensures { λ r. ⌜ (r ≡ openingOf t140 red .number) × (now (receiver .exit) ≡ recordOf (openingOf t140 red .receiver)) ⌝ }
+    ensures { λ r. ⌜ (r ≡ openReceiver t140 red .number) × (now (receiver .exit) ≡ lentRecord (openReceiver t140 red .receiver)) ⌝ }
 {
     let opened = Receiver::open(t140, red);
     *receiver = boundary::record_of(opened.receiver);
@@ -27,7 +27,7 @@ pub extern "C" fn stewpigeon_receiver_step(
     packet: &[u8],
     step: &mut Step,
 ) -> u8
-    ensures { λ r. ⌜ (r ≡ stepNumber (stepOf (heldIn (now (receiver .entry))) (now (packet .entry)) .answer)) × (now (receiver .exit) ≡ recordBehind (stepOf (heldIn (now (receiver .entry))) (now (packet .entry))) (now (receiver .entry))) × (now (step .exit) ≡ stepBehind (stepOf (heldIn (now (receiver .entry))) (now (packet .entry)) .answer) (now (step .entry))) ⌝ }
+    ensures { λ r. ⌜ (r ≡ stepNumber (stepOf (heldIn (now (receiver .entry))) (now (packet .entry)) .answer)) × (now (receiver .exit) ≡ receiverBehind (stepOf (heldIn (now (receiver .entry))) (now (packet .entry))) (now (receiver .entry))) × (now (step .exit) ≡ stepBehind (stepOf (heldIn (now (receiver .entry))) (now (packet .entry)) .answer) (now (step .entry))) ⌝ }
 {
     let lent = *receiver;
     let advanced = boundary::advance(lent, packet);

@@ -1,6 +1,6 @@
 // The sender for C and Rust callers, who lend its record and its texts by pointers. All zeros are a sender too: it refuses
 // every call.
-ghost use Rattle.sender_boundary.specs.Calls.{settingsOf, Opening, Offering, Clocking};
+ghost use Rattle.sender_boundary.specs.Calls.{settingsFrom, OpensIn, OffersIn, ClocksIn};
 use sender::Sender;
 
 // Opens a sender in the record lent, and makes the texts all zeros: 0, or the refusal's number and a record of all zeros.
@@ -16,7 +16,7 @@ pub extern "C" fn stewpigeon_sender_open_in(
     timestamp: u32,
     source: u32,
 ) -> u8
-    ensures { λ r. ⌜ Opening (settingsOf level buffering t140 red sequence timestamp source) r (now (sender .exit)) (now (texts .exit)) ⌝ }
+    ensures { λ r. ⌜ OpensIn (settingsFrom level buffering t140 red sequence timestamp source) r (now (sender .exit)) (now (texts .exit)) ⌝ }
 {
     let opened = sender_boundary::open(
         texts,
@@ -40,7 +40,7 @@ pub extern "C" fn stewpigeon_sender_offer_in(
     clock: u64,
     text: &[u8],
 ) -> u8
-    ensures { λ r. ⌜ Offering (now (sender .entry)) (now (texts .entry)) clock (now (text .entry)) r (now (sender .exit)) (now (texts .exit)) ⌝ }
+    ensures { λ r. ⌜ OffersIn (now (sender .entry)) (now (texts .entry)) clock (now (text .entry)) r (now (sender .exit)) (now (texts .exit)) ⌝ }
 {
     let outcome = sender.offer(clock, text, texts);
     boundary::number_of(outcome)
@@ -55,7 +55,7 @@ pub extern "C" fn stewpigeon_sender_clock_in(
     clock: u64,
     packet: &mut [u8],
 ) -> i64
-    ensures { λ r. ⌜ Clocking (now (sender .entry)) (now (texts .entry)) clock (now (packet .entry)) r (now (sender .exit)) (now (packet .exit)) ⌝ }
+    ensures { λ r. ⌜ ClocksIn (now (sender .entry)) (now (texts .entry)) clock (now (packet .entry)) r (now (sender .exit)) (now (packet .exit)) ⌝ }
 {
     let answer = sender.clock(clock, texts, packet);
     sender_boundary::code_of(answer)

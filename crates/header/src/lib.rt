@@ -8,8 +8,8 @@ ghost use Rattle.packet_spec.specs.Header as Fields;
 ghost use Rattle.packet_spec.specs.Header.{typesBad, otherType, otherSource, headerEnd, payloadEnd};
 ghost use Rattle.packet_spec.specs.Reading.{headerChecks};
 ghost use Rattle.packet.specs.Refusal.{number};
-ghost use Rattle.packet.specs.Places.{sourceOf};
-ghost use Rattle.header.specs.Seen.{seen, refusedHeader, passedHeader, headerOf};
+ghost use Rattle.packet.specs.Places.{expectedSource};
+ghost use Rattle.header.specs.internal.Seen.{headerSeen, refusedHeader, passedHeader, headerOf};
 use packet::Expected;
 use packet::Outcome;
 use packet::Refusal;
@@ -47,7 +47,7 @@ pub fn types_bad(t140: u8, red: u8) -> bool
 }
 
 fn refused(refusal: Refusal) -> Header
-    ensures { λ r. ⌜ seen r ≡ refusedHeader (number refusal) ⌝ }
+    ensures { λ r. ⌜ headerSeen r ≡ refusedHeader (number refusal) ⌝ }
 {
     Header {
         outcome: Outcome::Refused(refusal),
@@ -81,7 +81,7 @@ fn source_of(packet: &[u8]) -> u32
 
 fn other_source(expected: Expected, packet: &[u8]) -> bool
     requires { ⌜ shortest ≤ length (now packet) ⌝ }
-    ensures { λ r. ⌜ r ≡ otherSource (sourceOf expected) (now (packet .entry)) ⌝ }
+    ensures { λ r. ⌜ r ≡ otherSource (expectedSource expected) (now (packet .entry)) ⌝ }
 {
     match expected {
         Expected::Any => false,
@@ -99,7 +99,7 @@ fn read_fields(
     end: usize,
 ) -> Header
     requires { ⌜ (shortest ≤ length (now packet)) × (from ≡ headerEnd (now packet)) × (end ≡ payloadEnd (now packet)) ⌝ }
-    ensures { λ r. ⌜ seen r ≡ checked refusedHeader (drop 6 (headerChecks (sourceOf expected) t140 red (now (packet .entry)))) (passedHeader t140 (now (packet .entry))) ⌝ }
+    ensures { λ r. ⌜ headerSeen r ≡ checked refusedHeader (drop 6 (headerChecks (expectedSource expected) t140 red (now (packet .entry)))) (passedHeader t140 (now (packet .entry))) ⌝ }
 {
     if other_type(t140, red, packet) {
         return refused(Refusal::PayloadType);
@@ -123,7 +123,7 @@ fn read_fields(
 
 // Reads the header of a packet of the source that is expected.
 pub fn read(expected: Expected, t140: u8, red: u8, packet: &[u8]) -> Header
-    ensures { λ r. ⌜ seen r ≡ headerOf (sourceOf expected) t140 red (now (packet .entry)) ⌝ }
+    ensures { λ r. ⌜ headerSeen r ≡ headerOf (expectedSource expected) t140 red (now (packet .entry)) ⌝ }
 {
     if types_bad(t140, red) {
         return refused(Refusal::PayloadTypes);

@@ -10,10 +10,10 @@ use borrow.Author.Tests.{eq-eqb, ne-eqb, lt-ltb, le-ltb}
 use Rattle.base.specs.Arrays.{over}
 use Rattle.packet_spec.specs.Limits.{level}
 use Rattle.heading.specs.declared.Front.{Front}
-use Rattle.heading.specs.Headers.{headAt, headsOf, headsWith, frontWith, frontSize, frontOf, placed}
+use Rattle.heading.specs.internal.Headers.{headAt, headersFor, headsWith, frontWith, frontSize, frontOf, headersPlaced}
 use Rattle.heading.proofs.LastFirst.{last-none, last-more}
 
-heads-size : (t140 t : ℕ) (lens ats : List ℕ) (n : ℕ) → length (headsOf t140 t lens ats n) ≡ 4 * n + 1
+heads-size : (t140 t : ℕ) (lens ats : List ℕ) (n : ℕ) → length (headersFor t140 t lens ats n) ≡ 4 * n + 1
 heads-size t140 t lens ats zero = ap length (last-none (headAt t140 t lens ats) (t140 ∷ []))
 heads-size t140 t lens ats (suc n) = omega (arith, ap length (last-more (headAt t140 t lens ats) (t140 ∷ []) n), heads-size t140 t lens ats n)
 
@@ -22,27 +22,27 @@ module _ (f : Front) (n : ℕ) where
   unfolding headsWith
   heads-plain e = rw (eq-eqb (f .level) 0 e)
 
-  pub heads-redundant : (f .level ≡ 0 → ⊥) → headsWith f n ≡ headsOf (f .t140 % 128) (f .clock) (f .lens) (f .ats) n
+  pub heads-redundant : (f .level ≡ 0 → ⊥) → headsWith f n ≡ headersFor (f .t140 % 128) (f .clock) (f .lens) (f .ats) n
   unfolding headsWith
   heads-redundant e = rw (ne-eqb (f .level) 0 e)
 
   pub front-size : length (frontWith f n) ≡ frontSize (f .level) n
   unfolding headsWith
-  front-size = let heads = cond (eqb (f .level) 0) [] (headsOf (f .t140 % 128) (f .clock) (f .lens) (f .ats) n) in let e : length (frontWith f n) ≡ 12 + length heads = omega arith in e ∙ go (eqb (f .level) 0)
+  front-size = let heads = cond (eqb (f .level) 0) [] (headersFor (f .t140 % 128) (f .clock) (f .lens) (f .ats) n) in let e : length (frontWith f n) ≡ 12 + length heads = omega arith in e ∙ go (eqb (f .level) 0)
     where
-      go : (b : Bool) → 12 + length (cond b [] (headsOf (f .t140 % 128) (f .clock) (f .lens) (f .ats) n)) ≡ cond b 12 (12 + (4 * n + 1))
+      go : (b : Bool) → 12 + length (cond b [] (headersFor (f .t140 % 128) (f .clock) (f .lens) (f .ats) n)) ≡ cond b 12 (12 + (4 * n + 1))
       go true = refl
       go false = ap (λ (k : ℕ). 12 + k) (heads-size (f .t140 % 128) (f .clock) (f .lens) (f .ats) n)
 
-pub placed-not : (x p : List ℕ) → length p < length x → p ≡ placed x p
+pub placed-not : (x p : List ℕ) → length p < length x → p ≡ headersPlaced x p
 placed-not x p h = rw (lt-ltb (length p) (length x) h)
 
-pub placed-over : (x p : List ℕ) → length x ≤ length p → over x p ≡ placed x p
+pub placed-over : (x p : List ℕ) → length x ≤ length p → over x p ≡ headersPlaced x p
 placed-over x p h = rw (le-ltb (length p) (length x) h)
 
 -- what is placed where no more than `level` blocks are repeated, and the headers fit
 pub front-over : (f : Front) (n r : ℕ) (p to : List ℕ) → n ≤ level → length (frontWith f n) ≤ length p
-    → (r ≡ length (frontOf f n)) × (to ≡ placed (frontOf f n) p) → (r ≡ length (frontWith f n)) × (to ≡ over (frontWith f n) p)
+    → (r ≡ length (frontOf f n)) × (to ≡ headersPlaced (frontOf f n) p) → (r ≡ length (frontWith f n)) × (to ≡ over (frontWith f n) p)
 front-over f n r p to few fits e =
     let m : min n level ≡ n = omega arith in
-    (e .0 ∙ ap (λ (k : ℕ). length (frontWith f k)) m, e .1 ∙ ap (λ (k : ℕ). placed (frontWith f k) p) m ∙ sym (placed-over (frontWith f n) p fits))
+    (e .0 ∙ ap (λ (k : ℕ). length (frontWith f k)) m, e .1 ∙ ap (λ (k : ℕ). headersPlaced (frontWith f k) p) m ∙ sym (placed-over (frontWith f n) p fits))

@@ -7,7 +7,7 @@ use lib.ListN.{length}
 use borrow.Rule.Slice.PartMut.{putMid, midOf}
 use Rattle.base.specs.Arrays.{over}
 use Rattle.base.proofs.Written.{Begun, begun-none, begun-room, begun-fits, begun-next}
-use Rattle.heading.specs.LastFirst.{lastFirst}
+use Rattle.heading.specs.internal.LastFirst.{lastFirst}
 use Rattle.heading.proofs.LastFirst.{last-none, last-first}
 
 -- i turns are left

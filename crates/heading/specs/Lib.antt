@@ -1,2 +1,1 @@
-pub mod LastFirst
-pub mod Headers
+pub mod internal

@@ -8,7 +8,7 @@ ghost use Rattle.base.specs.Arrays.{over};
 ghost use Rattle.packet_spec.specs.Limits.{level};
 ghost use Rattle.packet_spec.specs.Encoding.{markerBit, fixedHeader, blockHeader};
 ghost use Rattle.sender_spec.specs.Limits.{roomSize};
-ghost use Rattle.heading.specs.Headers.{offsetOf, headsOf, frontWith, frontSize, frontOf, placed};
+ghost use Rattle.heading.specs.internal.Headers.{offsetOf, headersFor, frontWith, frontSize, frontOf, headersPlaced};
 use carrying::Block;
 use packet::Packet;
 
@@ -28,7 +28,7 @@ pub struct Front {
 
 // The headers of a packet that repeats the first `count` blocks, where the space holds them; their length.
 pub fn put_front(to: &mut [u8], front: Front, count: usize) -> usize
-    ensures { λ r. ⌜ (r ≡ length (frontOf front count)) × (now (to .exit) ≡ placed (frontOf front count) (now (to .entry))) ⌝ }
+    ensures { λ r. ⌜ (r ≡ length (frontOf front count)) × (now (to .exit) ≡ headersPlaced (frontOf front count) (now (to .entry))) ⌝ }
 {
     let count = numbers::least(count, Packet::LEVEL);
     let size = size(front.level, count);
@@ -115,8 +115,8 @@ fn put_heads(
     ats: [u64; Packet::LEVEL],
     count: usize,
 )
-    requires { ⌜ (t140 < 128) × (count ≤ level) × (length (headsOf t140 clock lens ats count) ≤ length (now to)) ⌝ }
-    ensures { λ _. ⌜ now (to .exit) ≡ over (headsOf t140 clock lens ats count) (now (to .entry)) ⌝ }
+    requires { ⌜ (t140 < 128) × (count ≤ level) × (length (headersFor t140 clock lens ats count) ≤ length (now to)) ⌝ }
+    ensures { λ _. ⌜ now (to .exit) ≡ over (headersFor t140 clock lens ats count) (now (to .entry)) ⌝ }
 {
     let mut i = Packet::LEVEL;
     let mut at = 0;

@@ -17,7 +17,7 @@ use Rattle.standing.specs.Filling.{Fill, reads, lastTurn, afterTurn, fillOf}
 use Rattle.standing.proofs.HowFar.{given-fits, used-fits}
 use Rattle.standing.proofs.Filling.{turnsLeft, turn-less, fill-on, fill-ends}
 use Rattle.journal.specs.declared.Transcript.{Transcript}
-use Rattle.journal.specs.Ready.{standingOf, ready, hungryNow, Takes, Gives, Fills}
+use Rattle.journal.specs.Ready.{standingOf, transcriptReady, hungryNow, Takes, Gives, Fills}
 use Rattle.journal.proofs.Ready.{hungry-is}
 
 -- what is lent from a place on
@@ -34,7 +34,7 @@ module _ (s₀ : Transcript) (p₀ x₀ y₀ : List ℕ) where
 
   -- behind some turns, which gave `given`
   pub record SoFar (s : Transcript) (p y : List ℕ) (used count : ℕ) : Type 0 where
-    pub still : ready s ≡ true
+    pub still : transcriptReady s ≡ true
     pub lent : length p ≡ length p₀
     pub long : longestPacket ≤ length p
     pub uses : used ≤ length x₀
@@ -44,7 +44,7 @@ module _ (s₀ : Transcript) (p₀ x₀ y₀ : List ℕ) where
     pub bytes : y ≡ over given y₀
     pub rest : whole ≡ afterTurn given used (fillOf (standingOf s p) (drop used x₀) (length y₀ - count))
 
-  pub none-yet : ready s₀ ≡ true → longestPacket ≤ length p₀ → SoFar s₀ p₀ y₀ 0 0
+  pub none-yet : transcriptReady s₀ ≡ true → longestPacket ≤ length p₀ → SoFar s₀ p₀ y₀ 0 0
   none-yet ok long = record {
     still = ok;
     lent = refl;

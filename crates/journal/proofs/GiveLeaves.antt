@@ -15,7 +15,7 @@ use Rattle.due.proofs.Giving.{left-within, left-text}
 use Rattle.standing.specs.Standing.{Standing, givenOf}
 use Rattle.standing.proofs.HowFar.{gives-rest}
 use Rattle.journal.specs.declared.Transcript.{Transcript}
-use Rattle.journal.specs.Ready.{standingOf, ready, Gives}
+use Rattle.journal.specs.Ready.{standingOf, transcriptReady, Gives}
 use Rattle.journal.proofs.Ready.{facts, holds}
 
 abbrev pub gave : Transcript → Due → Transcript
@@ -26,7 +26,7 @@ given-by : (c : Standing) (n : ℕ) → dueFitting (c .marks) (c .text) n ≡ gi
 unfolding givenOf
 given-by c n = refl
 
-module _ (s : Transcript) (p x : List ℕ) (ok : ready s ≡ true) (long : longestPacket ≤ length p) where
+module _ (s : Transcript) (p x : List ℕ) (ok : transcriptReady s ≡ true) (long : longestPacket ≤ length p) where
   pub gives : (d : Due) (count : ℕ) (x' : List ℕ) → d ≡ leftOf (s .due) p (length x) → count ≡ length (dueFitting (s .due .marks) (textDue (s .due) p) (length x))
       → x' ≡ over (dueFitting (s .due .marks) (textDue (s .due) p) (length x)) x → Gives s p x (gave s d) x' count
   gives d count x' e f g =

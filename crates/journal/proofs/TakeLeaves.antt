@@ -13,22 +13,22 @@ use Rattle.parts.specs.declared.Part.the-variants.{Packet}
 use Rattle.parts.specs.Bytes.{Reading, readTo, unread, going}
 use Rattle.reading.specs.declared.Reader.{Reader}
 use Rattle.reading.specs.Reading.{readingOf}
-use Rattle.records.specs.Reading.{ReadAll, ReadIf, Read}
+use Rattle.records.specs.internal.Reading.{ReadAll, ReadIf, RecordsRead}
 use Rattle.receiver.specs.View.{receiverOf}
 use Rattle.counts.specs.Counts.{OneMore}
 use Rattle.counts.proofs.Fits.{fit-behind, one-more}
 use Rattle.due.specs.declared.Due.{Due}
-use Rattle.due.specs.Due.{emptyDue, within, textDue}
+use Rattle.due.specs.Due.{emptyDue, dueWithin, textDue}
 use Rattle.due.proofs.Arising.{none-text, line-within}
-use Rattle.standing.specs.Standing.{settled, after, hungry, usedOf, takeOf}
+use Rattle.standing.specs.Standing.{settled, readOn, hungry, usedOf, takeOf}
 use Rattle.standing.proofs.Unread.{stopped-less, goes-on}
 use Rattle.journal.specs.declared.Transcript.{Transcript}
-use Rattle.journal.specs.Ready.{standingOf, ready, Takes}
+use Rattle.journal.specs.Ready.{standingOf, transcriptReady, Takes}
 use Rattle.journal.proofs.Ready.{facts, holds}
 
 -- a call of the reader took used bytes of x
-module _ (s : Transcript) (p x : List ℕ) (ok : ready s ≡ true) (long : longestPacket ≤ length p) (n : ℕ) (ne : n ≡ min (length x) (s .left)) (r' : Reader)
-    (p' : List ℕ) (used : ℕ) (rd : Read (s .reader) p (take n x) r' p' used) where
+module _ (s : Transcript) (p x : List ℕ) (ok : transcriptReady s ≡ true) (long : longestPacket ≤ length p) (n : ℕ) (ne : n ≡ min (length x) (s .left)) (r' : Reader)
+    (p' : List ℕ) (used : ℕ) (rd : RecordsRead (s .reader) p (take n x) r' p' used) where
   front : take n x ≡ take (s .left) x
   front = ap (λ (k : ℕ). take k x) ne ∙ take-min x (s .left)
 
@@ -54,7 +54,7 @@ module _ (s : Transcript) (p x : List ℕ) (ok : ready s ≡ true) (long : longe
     take-is : settled (standingOf behind p') ≡ takeOf (standingOf s p) x
     unfolding takeOf
     take-is =
-        sym (ap (λ (t : Bool). cond t (settled (after (standingOf s p) (readTo (readingOf (s .reader) p) (take (s .left) x)) (s .left - usedOf (standingOf s p) x))) (standingOf s p)) h
+        sym (ap (λ (t : Bool). cond t (settled (readOn (standingOf s p) (readTo (readingOf (s .reader) p) (take (s .left) x)) (s .left - usedOf (standingOf s p) x))) (standingOf s p)) h
         ∙ (λ i. settled (record {
           reading = sym (all .reads) i;
           receiver = receiverOf (s .receiver);
@@ -64,10 +64,10 @@ module _ (s : Transcript) (p x : List ℕ) (ok : ready s ≡ true) (long : longe
           text = sym (ap (λ (y : Due). textDue y p') de ∙ none-text p') i;
         })))
 
-    pub behind-ready : ready behind ≡ true
+    pub behind-ready : transcriptReady behind ≡ true
     behind-ready =
         holds behind
-        record { inside = ap within de ∙ line-within 0 (omega arith); fit = fit-behind (s .counts) (s .left) used (facts s ok .fit) used-fits; reader = all .still }
+        record { inside = ap dueWithin de ∙ line-within 0 (omega arith); fit = fit-behind (s .counts) (s .left) used (facts s ok .fit) used-fits; reader = all .still }
 
     -- a packet takes a byte of the journal at least
     pub behind-more : r' .part ≡ Packet → OneMore (s .counts) (s .left - used)
@@ -78,5 +78,5 @@ module _ (s : Transcript) (p x : List ℕ) (ok : ready s ≡ true) (long : longe
         let m = remain in
         one-more (s .counts) (s .left) used (facts s ok .fit) used-fits (omega arith)
 
-    pub takes : (s' : Transcript) (p'' : List ℕ) → ready s' ≡ true → standingOf s' p'' ≡ settled (standingOf behind p') → Takes s p x s' p'' used
+    pub takes : (s' : Transcript) (p'' : List ℕ) → transcriptReady s' ≡ true → standingOf s' p'' ≡ settled (standingOf behind p') → Takes s p x s' p'' used
     takes s' p'' w e = record { still = w; stands = e ∙ take-is; uses = used-is }

@@ -4,7 +4,7 @@ ghost use mathlib.Core.Bool.{true};
 ghost use Prim.Native.Nat.{_≤_};
 ghost use lib.ListN.{length};
 ghost use Rattle.journal_spec.specs.Contents.{longestPacket};
-ghost use Rattle.journal.specs.Ready.{ready, Fills};
+ghost use Rattle.journal.specs.Ready.{transcriptReady, Fills};
 use crate::Filled;
 use crate::Transcript;
 use crate::giving;
@@ -12,7 +12,7 @@ use crate::state;
 use crate::taking;
 
 pub fn fill(s: Transcript, input: &[u8], packet: &mut [u8], space: &mut [u8]) -> Filled
-    requires { ⌜ (ready s ≡ true) × (longestPacket ≤ length (now packet)) ⌝ }
+    requires { ⌜ (transcriptReady s ≡ true) × (longestPacket ≤ length (now packet)) ⌝ }
     ensures { λ r. ⌜ Fills s (now (packet .entry)) (now (input .entry)) (now (space .entry)) (r .transcript) (now (packet .exit)) (now (space .exit)) (r .used) (r .count) ⌝ }
 {
     let mut transcript = s;

@@ -4,7 +4,7 @@ ghost use mathlib.Core.Bool.{true};
 ghost use Prim.Native.Nat.{_≤_};
 ghost use lib.ListN.{length};
 ghost use Rattle.journal_spec.specs.Contents.{longestPacket};
-ghost use Rattle.journal.specs.Ready.{ready, Gives};
+ghost use Rattle.journal.specs.Ready.{transcriptReady, Gives};
 use crate::Transcript;
 
 // How many bytes of the space were filled.
@@ -14,7 +14,7 @@ pub struct Given {
 }
 
 pub fn give(s: Transcript, packet: &[u8], space: &mut [u8]) -> Given
-    requires { ⌜ (ready s ≡ true) × (longestPacket ≤ length (now packet)) ⌝ }
+    requires { ⌜ (transcriptReady s ≡ true) × (longestPacket ≤ length (now packet)) ⌝ }
     ensures { λ r. ⌜ Gives s (now (packet .entry)) (now (space .entry)) (r .transcript) (now (space .exit)) (r .count) ⌝ }
 {
     let due = s.due;

@@ -7,7 +7,7 @@ ghost use Rattle.journal_spec.specs.Contents.{longestPacket};
 ghost use Rattle.journal_spec.specs.Lines.{brokenLine};
 ghost use Rattle.counts.specs.Counts.{OneMore};
 ghost use Rattle.standing.specs.Standing.{settled, closed};
-ghost use Rattle.journal.specs.Ready.{ready, standingOf, Stops};
+ghost use Rattle.journal.specs.Ready.{transcriptReady, standingOf, Stops};
 use crate::Transcript;
 use crate::state;
 use parts::Part;
@@ -15,8 +15,8 @@ use reading::Reader;
 
 // The journal is broken: its line is due.
 pub fn break_off(s: Transcript, packet: &mut [u8]) -> Transcript
-    requires { ⌜ (ready s ≡ true) × (longestPacket ≤ length (now packet)) ⌝ }
-    ensures { λ r. ⌜ (ready r ≡ true) × (standingOf r (now (packet .exit)) ≡ closed (standingOf s (now (packet .entry))) Part.Broken brokenLine) ⌝ }
+    requires { ⌜ (transcriptReady s ≡ true) × (longestPacket ≤ length (now packet)) ⌝ }
+    ensures { λ r. ⌜ (transcriptReady r ≡ true) × (standingOf r (now (packet .exit)) ≡ closed (standingOf s (now (packet .entry))) Part.Broken brokenLine) ⌝ }
 {
     let due = acting::break_off(packet);
     let reader = s.reader;
@@ -28,7 +28,7 @@ pub fn break_off(s: Transcript, packet: &mut [u8]) -> Transcript
 
 // The journal has no more bytes.
 pub fn stop(s: Transcript, packet: &mut [u8]) -> Transcript
-    requires { ⌜ (ready s ≡ true) × (longestPacket ≤ length (now packet)) ⌝ }
+    requires { ⌜ (transcriptReady s ≡ true) × (longestPacket ≤ length (now packet)) ⌝ }
     ensures { λ r. ⌜ Stops s (now (packet .entry)) r (now (packet .exit)) ⌝ }
 {
     let hungry = state::is_hungry(s);
@@ -40,8 +40,8 @@ pub fn stop(s: Transcript, packet: &mut [u8]) -> Transcript
 
 // Where reading goes on more is to come, unless the limit is reached.
 pub fn settle(s: Transcript, packet: &mut [u8]) -> Transcript
-    requires { ⌜ (ready s ≡ true) × (longestPacket ≤ length (now packet)) × (s .reader .part ≡ Part.Packet → OneMore (s .counts) (s .left)) ⌝ }
-    ensures { λ r. ⌜ (ready r ≡ true) × (standingOf r (now (packet .exit)) ≡ settled (standingOf s (now (packet .entry)))) ⌝ }
+    requires { ⌜ (transcriptReady s ≡ true) × (longestPacket ≤ length (now packet)) × (s .reader .part ≡ Part.Packet → OneMore (s .counts) (s .left)) ⌝ }
+    ensures { λ r. ⌜ (transcriptReady r ≡ true) × (standingOf r (now (packet .exit)) ≡ settled (standingOf s (now (packet .entry)))) ⌝ }
 {
     let reader = s.reader;
     let part = reader.part;

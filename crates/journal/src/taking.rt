@@ -5,7 +5,7 @@ ghost use Prim.Native.Nat.{_≤_};
 ghost use lib.ListN.{length};
 ghost use Rattle.journal_spec.specs.Contents.{longestPacket};
 ghost use Rattle.standing.specs.Standing.{hungry};
-ghost use Rattle.journal.specs.Ready.{standingOf, ready, Takes};
+ghost use Rattle.journal.specs.Ready.{standingOf, transcriptReady, Takes};
 use crate::Transcript;
 use crate::settling;
 use due::Due;
@@ -17,7 +17,7 @@ pub struct Taken {
 }
 
 pub fn take(s: Transcript, input: &[u8], packet: &mut [u8]) -> Taken
-    requires { ⌜ (ready s ≡ true) × (longestPacket ≤ length (now packet)) × (hungry (standingOf s (now packet)) ≡ true) ⌝ }
+    requires { ⌜ (transcriptReady s ≡ true) × (longestPacket ≤ length (now packet)) × (hungry (standingOf s (now packet)) ≡ true) ⌝ }
     ensures { λ r. ⌜ Takes s (now (packet .entry)) (now (input .entry)) (r .transcript) (now (packet .exit)) (r .used) ⌝ }
 {
     let reader = s.reader;

@@ -7,15 +7,15 @@ use native.Mathlib.Omega.{arith}
 use lib.ListN.{length}
 use Rattle.packet_spec.specs.Redundancy.{joined}
 use Rattle.delivery.specs.Record.{block, entries}
-use Rattle.receiver_spec.specs.Opening.{openingOf}
+use Rattle.receiver_spec.specs.Opening.{openReceiver}
 use Rattle.receiver_spec.specs.State.{Receiver}
 use Rattle.receiver_spec.specs.Step.{stepOf}
-use Rattle.receiver_spec.specs.Answers.{gives, isLate, refuses, Answered}
+use Rattle.receiver_spec.specs.Answers.{gives, isLate, refuses, StepAnswer}
 use Rattle.receiver_spec.specs.Kinds.{wasForward, wasLate, wasRefused}
 use Rattle.receiver_spec.specs.Record.{blocksGiven, entriesOf}
 use Rattle.journal_spec.specs.Contents.{packetsThenEnd, wholeOf, journalOf}
 use Rattle.journal_spec.specs.Lines.{countsLine, brokenLine}
-use Rattle.journal_spec.specs.Transcript.{packetsIn, isWhole, answersOf, textOf, howMany, lostIn, lineFor, printed, transcript}
+use Rattle.journal_spec.specs.Transcript.{packetsIn, isWhole, answersOf, printedText, howMany, lostIn, lineFor, printed, transcript}
 use Rattle.delivery.proofs.Entries.{mark-is-no-block}
 use Rattle.receiver_spec.proofs.OneEach.{OneEach, none, one, no-mark}
 use Rattle.journal_spec.proofs.Record.{writtenRecord, written-blocks, text-is-record}
@@ -29,13 +29,13 @@ is-whole [] = refl
 is-whole (p ∷ ps) = is-whole ps
 
 -- answers of so many forward packets, without a loss
-pub record Forward (answers : List Answered) (n : ℕ) : Type 0 where
+pub record Forward (answers : List StepAnswer) (n : ℕ) : Type 0 where
   pub packets : howMany wasForward answers ≡ n
   pub late : howMany wasLate answers ≡ 0
   pub lost : lostIn answers ≡ 0
   pub refused : howMany wasRefused answers ≡ 0
 
-one-more : (r : Receiver) (p b : List ℕ) (a : Answered) (answers : List Answered) (n : ℕ) → entriesOf r p a ≡ block b ∷ [] → Forward answers n → Forward (a ∷ answers) (suc n)
+one-more : (r : Receiver) (p b : List ℕ) (a : StepAnswer) (answers : List StepAnswer) (n : ℕ) → entriesOf r p a ≡ block b ∷ [] → Forward answers n → Forward (a ∷ answers) (suc n)
 one-more r p b (refuses m) answers n e f = absurd (let z : _≡_ {A = ℕ} 0 1 = ap length e in omega arith)
 one-more r p b (isLate m) answers n e f = absurd (let z : _≡_ {A = ℕ} 0 1 = ap length e in omega arith)
 one-more r p b (gives g) answers n e f = go (g .loss) refl
@@ -50,14 +50,14 @@ forward : {r : Receiver} {ps bs : List (List ℕ)} → OneEach r ps bs → Forwa
 forward (none r) = record { packets = refl; late = refl; lost = refl; refused = refl }
 forward (one r p b e rest) = one-more r p b (stepOf r p .answer) _ _ e (forward rest)
 
-pub prints-each : (t140 red : ℕ) {ps bs : List (List ℕ)} (j : List ℕ) → journalOf j ≡ wholeOf t140 red ps → OneEach (openingOf t140 red .receiver) ps bs
+pub prints-each : (t140 red : ℕ) {ps bs : List (List ℕ)} (j : List ℕ) → journalOf j ≡ wholeOf t140 red ps → OneEach (openReceiver t140 red .receiver) ps bs
     → transcript j ≡ joined bs ++ countsLine (length ps) 0 0 0
 unfolding transcript
 prints-each t140 red {ps} {bs} j e each =
-    let r = openingOf t140 red .receiver in
+    let r = openReceiver t140 red .receiver in
     let f = forward each in
     ap printed e
-    ∙ ap₂ {C = List ℕ} (λ (l : List (List ℕ)) (w : Bool). textOf r l ++ cond w (lineFor (answersOf r l)) brokenLine) (packets-are ps) (is-whole ps)
+    ∙ ap₂ {C = List ℕ} (λ (l : List (List ℕ)) (w : Bool). printedText r l ++ cond w (lineFor (answersOf r l)) brokenLine) (packets-are ps) (is-whole ps)
     ∙ ap₂ {C = List ℕ} (λ (x y : List ℕ). x ++ y)
     (text-is-record r ps ∙ ap writtenRecord (no-mark each) ∙ written-blocks bs)
     (ap₂ {C = List ℕ} (λ (n k : ℕ). countsLine n k (lostIn (answersOf r ps)) (howMany wasRefused (answersOf r ps))) (f .packets) (f .late)

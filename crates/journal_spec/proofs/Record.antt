@@ -10,7 +10,7 @@ use Rattle.receiver_spec.specs.Step.{stepOf}
 use Rattle.receiver_spec.specs.Record.{lossOf, blocksGiven, entriesOf, recordOf}
 use Rattle.receiver_spec.specs.Marks.{marks, markBytes}
 use Rattle.receiver_spec.proofs.TextGiven.{text-is-blocks}
-use Rattle.journal_spec.specs.Transcript.{printedOf, textOf}
+use Rattle.journal_spec.specs.Transcript.{printedOf, printedText}
 
 abbrev pub writtenEntry : Entry → List ℕ
 writtenEntry mark = markBytes
@@ -39,7 +39,7 @@ written-entries n bs =
     ∙ ap (λ (l : List ℕ). l ++ writtenRecord (map block bs)) (written-marks n)
     ∙ ap (λ (l : List ℕ). marks n ++ l) (written-blocks bs)
 
-pub text-is-record : (r : Receiver) (ps : List (List ℕ)) → textOf r ps ≡ writtenRecord (recordOf stepOf r ps)
+pub text-is-record : (r : Receiver) (ps : List (List ℕ)) → printedText r ps ≡ writtenRecord (recordOf stepOf r ps)
 text-is-record r [] = refl
 text-is-record r (p ∷ ps) =
     let s = stepOf r p in

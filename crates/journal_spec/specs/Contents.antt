@@ -32,9 +32,9 @@ pub data Stage : Type 0 where
 abbrev pub longestPacket : ℕ
 longestPacket = 1488
 
-abbrev pub zeros : List ℕ → Bool
-zeros [] = true
-zeros (b ∷ bs) = cond (eqb b 0) (zeros bs) false
+abbrev pub areZeros : List ℕ → Bool
+areZeros [] = true
+areZeros (b ∷ bs) = cond (eqb b 0) (areZeros bs) false
 
 -- "Times aside, the first record is an open with payload types that pass 3, and no second open follows. A packet's pieces, as
 -- many as its length needs, follow it without a break; then it is read. Anything else, an early end, nonzero filling ..
@@ -56,7 +56,7 @@ contentsOf between (piece x ∷ rs) = breaks
 contentsOf between (bad ∷ rs) = breaks
 contentsOf (within n ps) (piece x ∷ rs) =
     cond (ltb (length (ps ++ x)) n) (contentsOf (within n (ps ++ x)) rs)
-    (cond (zeros (drop n (ps ++ x))) (packet (take n (ps ++ x)) (contentsOf between rs)) breaks)
+    (cond (areZeros (drop n (ps ++ x))) (packet (take n (ps ++ x)) (contentsOf between rs)) breaks)
 contentsOf (within n ps) (time ∷ rs) = breaks
 contentsOf (within n ps) (ending ∷ rs) = breaks
 contentsOf (within n ps) (beginning m ∷ rs) = breaks

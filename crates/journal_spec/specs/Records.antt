@@ -28,8 +28,8 @@ timeLength = 8
 abbrev pub bodyLength : ℕ → ℕ
 bodyLength kind = cond (eqb kind 1) 2 (cond (eqb kind 2) 2 (cond (eqb kind 3) pieceLength (cond (eqb kind 4) timeLength 0)))
 
-abbrev pub recordOf : ℕ → List ℕ → Record
-recordOf kind body =
+abbrev pub recordOfKind : ℕ → List ℕ → Record
+recordOfKind kind body =
     cond (eqb kind 0) ending
     (cond (eqb kind 1) (opening (getD body 0 0) (getD body 1 0))
     (cond (eqb kind 2) (beginning (be16 body 0))
@@ -38,7 +38,7 @@ recordOf kind body =
 
 -- the record of this kind at the front of the bytes behind it
 abbrev pub firstOf : ℕ → List ℕ → Record
-firstOf kind rest = cond (ltb (length rest) (bodyLength kind)) bad (recordOf kind (take (bodyLength kind) rest))
+firstOf kind rest = cond (ltb (length rest) (bodyLength kind)) bad (recordOfKind kind (take (bodyLength kind) rest))
 
 -- at most so many records
 unfoldable pub recordsUpTo : ℕ → List ℕ → List Record

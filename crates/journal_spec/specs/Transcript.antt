@@ -3,10 +3,10 @@
 use Prim.Native.Nat.{ℕ, _+_}
 use mathlib.Core.List.{List, [], _∷_, _++_}
 use mathlib.Core.Bool.{Bool, true, false, cond}
-use Rattle.receiver_spec.specs.Opening.{openingOf}
+use Rattle.receiver_spec.specs.Opening.{openReceiver}
 use Rattle.receiver_spec.specs.State.{zeroReceiver, Receiver}
 use Rattle.receiver_spec.specs.Step.{stepOf, textGiven}
-use Rattle.receiver_spec.specs.Answers.{Answered}
+use Rattle.receiver_spec.specs.Answers.{StepAnswer}
 use Rattle.receiver_spec.specs.Kinds.{wasForward, wasLate, wasRefused}
 use Rattle.receiver_spec.specs.Record.{lossOf}
 use Rattle.receiver_spec.specs.Marks.{marks}
@@ -21,7 +21,7 @@ packetsIn ends = []
 packetsIn breaks = []
 
 abbrev pub receiverIn : Contents → Receiver
-receiverIn (opens t140 red c) = openingOf t140 red .receiver
+receiverIn (opens t140 red c) = openReceiver t140 red .receiver
 receiverIn (packet p c) = zeroReceiver
 receiverIn ends = zeroReceiver
 receiverIn breaks = zeroReceiver
@@ -33,33 +33,33 @@ isWhole ends = true
 isWhole breaks = false
 
 -- each packet goes to the receiver that the one before it left
-abbrev pub answersOf : Receiver → List (List ℕ) → List Answered
+abbrev pub answersOf : Receiver → List (List ℕ) → List StepAnswer
 answersOf r [] = []
 answersOf r (p ∷ ps) = stepOf r p .answer ∷ answersOf (stepOf r p .receiver) ps
 
 -- "Marks stand before their packet's text", and "All of a loss's marks are written"
-abbrev pub printedOf : List ℕ → Answered → List ℕ
+abbrev pub printedOf : List ℕ → StepAnswer → List ℕ
 printedOf p a = marks (lossOf a) ++ textGiven p a
 
-abbrev pub textOf : Receiver → List (List ℕ) → List ℕ
-textOf r [] = []
-textOf r (p ∷ ps) = printedOf p (stepOf r p .answer) ++ textOf (stepOf r p .receiver) ps
+abbrev pub printedText : Receiver → List (List ℕ) → List ℕ
+printedText r [] = []
+printedText r (p ∷ ps) = printedOf p (stepOf r p .answer) ++ printedText (stepOf r p .receiver) ps
 
 -- the counts, over the list of answers: ""packets" counts those neither late nor refused"
-abbrev pub howMany : (Answered → Bool) → List Answered → ℕ
+abbrev pub howMany : (StepAnswer → Bool) → List StepAnswer → ℕ
 howMany f [] = 0
 howMany f (a ∷ answers) = cond (f a) 1 0 + howMany f answers
 
-abbrev pub lostIn : List Answered → ℕ
+abbrev pub lostIn : List StepAnswer → ℕ
 lostIn [] = 0
 lostIn (a ∷ answers) = lossOf a + lostIn answers
 
-abbrev pub lineFor : List Answered → List ℕ
+abbrev pub lineFor : List StepAnswer → List ℕ
 lineFor answers = countsLine (howMany wasForward answers) (howMany wasLate answers) (lostIn answers) (howMany wasRefused answers)
 
 abbrev pub printed : Contents → List ℕ
 printed c =
-    textOf (receiverIn c) (packetsIn c)
+    printedText (receiverIn c) (packetsIn c)
     ++ cond (isWhole c) (lineFor (answersOf (receiverIn c) (packetsIn c))) brokenLine
 
 -- what a journal prints

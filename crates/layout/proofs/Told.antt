@@ -11,16 +11,16 @@ use Rattle.layout.specs.declared.Layout.{Layout}
 use Rattle.base.specs.Checks.{checked, numberBy}
 use Rattle.packet_spec.specs.Limits.{shortest}
 use Rattle.packet_spec.specs.Header.{headerEnd, payloadEnd}
-use Rattle.packet_spec.specs.Layout.{layoutChecks}
+use Rattle.packet_spec.specs.internal.Layout.{layoutChecks}
 use Rattle.packet.specs.Refusal.{number, outcomeNumber}
-use Rattle.layout.specs.Seen.{Seen, seen, refusedLayout, passedLayout, layoutOf}
+use Rattle.layout.specs.internal.Seen.{LayoutSeen, layoutSeen, refusedLayout, passedLayout, layoutOf}
 use Rattle.base.proofs.InOrder.{number-first, refused-by, passed-by, none-applies}
 use Rattle.packet.proofs.Names.{number-positive}
 
-module _ (p : List ℕ) (r : Layout) (told : seen r ≡ layoutOf p) where
+module _ (p : List ℕ) (r : Layout) (told : layoutSeen r ≡ layoutOf p) where
   first : outcomeNumber (r .outcome) ≡ numberBy (layoutChecks p)
   unfolding layoutOf
-  first = ap (λ (s : Seen). s .number) told ∙ number-first (λ (s : Seen). s .number) refusedLayout (layoutChecks p) (passedLayout p) (λ n. refl) refl
+  first = ap (λ (s : LayoutSeen). s .number) told ∙ number-first (λ (s : LayoutSeen). s .number) refusedLayout (layoutChecks p) (passedLayout p) (λ n. refl) refl
 
   pub refused-told : {A : Type 0} (refuse : ℕ → A) (x : A) (k : Refusal) → r .outcome ≡ Refused k → checked refuse (layoutChecks p) x ≡ refuse (number k)
   refused-told refuse x k o = refused-by refuse (layoutChecks p) x (number k) (number-positive k) (sym first ∙ ap outcomeNumber o)
@@ -32,9 +32,9 @@ module _ (p : List ℕ) (r : Layout) (told : seen r ≡ layoutOf p) where
     pub passed-told : {A : Type 0} (refuse : ℕ → A) (x : A) → checked refuse (layoutChecks p) x ≡ x
     passed-told refuse x = passed-by refuse (layoutChecks p) x (search needs) no-check
 
-    placed : seen r ≡ passedLayout p
+    placed : layoutSeen r ≡ passedLayout p
     unfolding layoutOf
     placed = told ∙ passed-told refusedLayout (passedLayout p)
 
     pub lies-told : (shortest ≤ length p) × (r .from ≡ headerEnd p) × (r .end ≡ payloadEnd p)
-    lies-told = (ltb-false (length p) shortest (none-applies (layoutChecks p) (search needs) no-check .0), ap (λ (s : Seen). s .from) placed, ap (λ (s : Seen). s .end) placed)
+    lies-told = (ltb-false (length p) shortest (none-applies (layoutChecks p) (search needs) no-check .0), ap (λ (s : LayoutSeen). s .from) placed, ap (λ (s : LayoutSeen). s .end) placed)

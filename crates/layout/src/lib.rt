@@ -7,9 +7,9 @@ ghost use lib.ListN.{length, drop};
 ghost use Rattle.base.specs.Checks.{checked};
 ghost use Rattle.packet_spec.specs.Limits.{shortest, longest};
 ghost use Rattle.packet_spec.specs.Header.{headerEnd, paddingBad, payloadEnd};
-ghost use Rattle.packet_spec.specs.Layout.{layoutChecks};
+ghost use Rattle.packet_spec.specs.internal.Layout.{layoutChecks};
 ghost use Rattle.packet.specs.Refusal.{number};
-ghost use Rattle.layout.specs.Seen.{seen, refusedLayout, passedLayout, layoutOf};
+ghost use Rattle.layout.specs.internal.Seen.{layoutSeen, refusedLayout, passedLayout, layoutOf};
 use packet::Outcome;
 use packet::Packet;
 use packet::Refusal;
@@ -76,7 +76,7 @@ fn end(packet: &[u8], from: usize) -> Place
 }
 
 fn refused(refusal: Refusal) -> Layout
-    ensures { λ r. ⌜ seen r ≡ refusedLayout (number refusal) ⌝ }
+    ensures { λ r. ⌜ layoutSeen r ≡ refusedLayout (number refusal) ⌝ }
 {
     Layout {
         outcome: Outcome::Refused(refusal),
@@ -88,7 +88,7 @@ fn refused(refusal: Refusal) -> Layout
 // Checks 13 and 14.
 fn read_rest(packet: &[u8]) -> Layout
     requires { ⌜ (shortest ≤ length (now packet)) × (length (now packet) ≤ longest) ⌝ }
-    ensures { λ r. ⌜ seen r ≡ checked refusedLayout (drop 3 (layoutChecks (now (packet .entry)))) (passedLayout (now (packet .entry))) ⌝ }
+    ensures { λ r. ⌜ layoutSeen r ≡ checked refusedLayout (drop 3 (layoutChecks (now (packet .entry)))) (passedLayout (now (packet .entry))) ⌝ }
 {
     match start(packet) {
         Place::Past => refused(Refusal::Header),
@@ -105,7 +105,7 @@ fn read_rest(packet: &[u8]) -> Layout
 
 // Where the payload of a packet lies.
 pub fn read(packet: &[u8]) -> Layout
-    ensures { λ r. ⌜ seen r ≡ layoutOf (now (packet .entry)) ⌝ }
+    ensures { λ r. ⌜ layoutSeen r ≡ layoutOf (now (packet .entry)) ⌝ }
 {
     if packet.len() < Packet::SHORTEST {
         return refused(Refusal::Short);

@@ -10,7 +10,7 @@ use lib.Seq.{take-append-le, take-at, drop-at, drop-drop, take-take, take-add, l
 use borrow.Author.Tests.{leb-true, leb-false}
 use Rattle.base.specs.Arrays.{over}
 use Rattle.sender_spec.specs.Limits.{roomSize}
-use Rattle.slots.specs.Slots.{slots, textsSize, roomOf, slotOf, textIn, waitingIn}
+use Rattle.slots.specs.Slots.{slots, textsSize, roomOf, slotOf, slotText, waitingIn}
 use Rattle.slots.proofs.Slots.{room-slot}
 use Rattle.offer.specs.Offer.{endOf, textsWith}
 
@@ -68,10 +68,10 @@ module _ (room len : ℕ) (texts x : List ℕ) (size : length texts ≡ textsSiz
       let e : min (min len roomSize + length x) roomSize ≡ min len roomSize + length x = omega arith in
       ap (λ (n : ℕ). take n (drop (r * roomSize) (textsWith room len x texts))) e ∙ put-joins (endOf room len) x texts within (r * roomSize) (min len roomSize) refl
 
-  pub other-stays : (slot n : ℕ) → slot < slots → (slot ≡ r → ⊥) → textIn (textsWith room len x texts) slot n ≡ textIn texts slot n
+  pub other-stays : (slot n : ℕ) → slot < slots → (slot ≡ r → ⊥) → slotText (textsWith room len x texts) slot n ≡ slotText texts slot n
   other-stays slot n below differs = go (leb slot r) refl
     where
-      go : (b : Bool) → leb slot r ≡ b → textIn (textsWith room len x texts) slot n ≡ textIn texts slot n
+      go : (b : Bool) → leb slot r ≡ b → slotText (textsWith room len x texts) slot n ≡ slotText texts slot n
       go true e = let h : slot ≤ r = leb-true slot r e in put-before (endOf room len) x texts within (slot * roomSize) (min n roomSize) (omega arith)
       go false e = let h : r < slot = leb-false slot r e in ap (take (min n roomSize)) (put-behind (endOf room len) x texts within (slot * roomSize) (omega arith))
 

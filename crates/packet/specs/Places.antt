@@ -17,16 +17,16 @@ use Rattle.packet_spec.specs.Redundancy.{Block}
 use Rattle.packet_spec.specs.Reading.{Content, Read, holds, refused, reading, startsAt}
 
 -- the source that is expected, in the terms of the definition
-abbrev pub sourceOf : code.Expected → Expected
-sourceOf source.Any = Any
-sourceOf (source.Only s) = Only s
+abbrev pub expectedSource : code.Expected → Expected
+expectedSource source.Any = Any
+expectedSource (source.Only s) = Only s
 
 -- an answer by its number: 0, or the refusal's
-pub record Numbered : Type 0 where
+pub record ReadResult : Type 0 where
   pub number : ℕ
   pub packet : Packet
 
-abbrev pub numbered : Reading → Numbered
+abbrev pub numbered : Reading → ReadResult
 numbered r = record { number = outcomeNumber (r .outcome); packet = r .packet }
 
 abbrev pub none : Older
@@ -53,14 +53,14 @@ placed n p c = record {
   end = payloadEnd p;
 }
 
-abbrev pub refusedAnswer : ℕ → ℕ → Numbered
+abbrev pub refusedAnswer : ℕ → ℕ → ReadResult
 refusedAnswer n k = record { number = k; packet = zeroPacket n }
 
-abbrev pub answer : ℕ → List ℕ → Read → Numbered
+abbrev pub answer : ℕ → List ℕ → Read → ReadResult
 answer n p (refused k) = refusedAnswer n k
 answer n p (holds c) = record { number = 0; packet = placed n p c }
 
-unfoldable pub readOf : Expected → ℕ → ℕ → List ℕ → Numbered
+unfoldable pub readOf : Expected → ℕ → ℕ → List ℕ → ReadResult
 readOf expected t140 red p = answer level p (reading level expected t140 red p)
 
 -- where block k starts: the older blocks, then the primary; behind it, the end

@@ -11,7 +11,7 @@ use Rattle.packet_spec.specs.Redundancy.{Head, total, areText}
 use Rattle.packet_spec.specs.Limits.{shortest, longest}
 use Rattle.base.specs.Checks.{checked}
 use Rattle.packet_spec.specs.Reading.{headerChecks, blockChecks}
-use Rattle.packet_spec.specs.Layout.{layoutChecks}
+use Rattle.packet_spec.specs.internal.Layout.{layoutChecks}
 
 module _ {A : Type 0} (refuse : ℕ → A) (p : List ℕ) (x : A) where
   -- checks 10 to 14, from the n-th on

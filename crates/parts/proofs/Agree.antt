@@ -12,8 +12,8 @@ use Rattle.parts.specs.declared.Part.{Part}
 use Rattle.parts.specs.declared.Part.the-variants.{Kind, Types, Length, Piece, Time, Opened, Packet, Ended, Broken}
 use Rattle.packet_spec.specs.Header.{typesBad, be16}
 use Rattle.journal_spec.specs.Records.{Record, ending, opening, beginning, piece, time, bad, bodyLength, firstOf, recordsUpTo}
-use Rattle.journal_spec.specs.Contents.{packet, ends, breaks, opens, Stage, unopened, between, within, zeros, longestPacket, contentsOf, limit, journalOf}
-use Rattle.parts.specs.Bytes.{fresh, at, kindOf, begun, pieced, tells}
+use Rattle.journal_spec.specs.Contents.{packet, ends, breaks, opens, Stage, unopened, between, within, areZeros, longestPacket, contentsOf, limit, journalOf}
+use Rattle.parts.specs.Bytes.{freshReading, at, kindOf, recordBegun, pieced, tells}
 use Rattle.parts.proofs.Spans.{reading, onward, tells-nil, tells-cons, timed, gathered, typed, sized}
 
 -- how far the records are, where a reading is at a kind byte
@@ -115,7 +115,7 @@ front (a ∷ b ∷ j) = (refl, refl)
 
 at-piece : (n : ℕ) (ps x : List ℕ) (rs : List Record)
     → cond (ltb (length (ps ++ x)) n) (contentsOf (within n (ps ++ x)) rs)
-    (cond (zeros (drop n (ps ++ x))) (packet (take n (ps ++ x)) (contentsOf between rs)) breaks)
+    (cond (areZeros (drop n (ps ++ x))) (packet (take n (ps ++ x)) (contentsOf between rs)) breaks)
     ≡ contentsOf (within n ps) (piece x ∷ rs)
 unfolding contentsOf
 at-piece n ps x rs = refl
@@ -138,8 +138,8 @@ module _ (k : ℕ) (agrees : Agrees k) (n : ℕ) (ps : List ℕ) (b : ℕ) (j : 
   behind-piece : (qs : List ℕ) (rest : List ℕ) → length rest ≤ k
       → onward (pieced (reading true Kind n ps) qs) rest
       ≡ cond (ltb (length qs) n) (contentsOf (within n qs) (recordsUpTo k rest))
-      (cond (zeros (drop n qs)) (packet (take n qs) (contentsOf between (recordsUpTo k rest))) breaks)
-  behind-piece qs rest le = go (ltb (length qs) n) refl (zeros (drop n qs))
+      (cond (areZeros (drop n qs)) (packet (take n qs) (contentsOf between (recordsUpTo k rest))) breaks)
+  behind-piece qs rest le = go (ltb (length qs) n) refl (areZeros (drop n qs))
     where
       go : (x : Bool) → ltb (length qs) n ≡ x → (z : Bool)
           → onward (reading true (cond x Kind (cond z Packet Broken)) n qs) rest
@@ -168,7 +168,7 @@ module _ (k : ℕ) (agrees : Agrees k) (n : ℕ) (ps : List ℕ) (b : ℕ) (j : 
 
   -- behind a packet's length
   behind-length : (m : ℕ) (rest : List ℕ) → length rest ≤ k
-      → onward (begun (reading true Kind n ps) m) rest
+      → onward (recordBegun (reading true Kind n ps) m) rest
       ≡ cond (ltb longestPacket m) breaks (cond (eqb m 0) (packet [] (contentsOf between (recordsUpTo k rest))) (contentsOf (within m []) (recordsUpTo k rest)))
   behind-length m rest le = go (ltb longestPacket m) (eqb m 0) refl
     where
@@ -203,7 +203,7 @@ module _ (k : ℕ) (agrees : Agrees k) (n : ℕ) (ps : List ℕ) (b : ℕ) (j : 
             ∙ at-time (recordsUpTo k (drop 8 j))
 
         whole-length : (x : Bool)
-            → cond x breaks (onward (begun (reading true Kind n ps) (be16 j 0)) (drop 2 j))
+            → cond x breaks (onward (recordBegun (reading true Kind n ps) (be16 j 0)) (drop 2 j))
             ≡ contentsOf between (cond x bad (beginning (be16 (take 2 j) 0)) ∷ recordsUpTo k (drop 2 j))
         whole-length true = at-bad between (recordsUpTo k (drop 2 j))
         whole-length false =
@@ -282,6 +282,6 @@ agrees zero = none-left
 agrees (suc k) = one-record k (agrees k)
 
 -- what is told byte by byte from the start is what the journal's records tell
-pub agree : (j : List ℕ) → tells fresh (take limit j) ≡ journalOf j
+pub agree : (j : List ℕ) → tells freshReading (take limit j) ≡ journalOf j
 unfolding journalOf
 agree j = agrees (length (take limit j)) false 0 [] (take limit j) (omega arith) (λ e. refl)

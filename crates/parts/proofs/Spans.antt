@@ -12,7 +12,7 @@ use Rattle.parts.specs.declared.Part.{Part}
 use Rattle.parts.specs.declared.Part.the-variants.{Kind, Types, Red, Length, Low, Piece, Time, Opened, Broken}
 use Rattle.packet_spec.specs.Header.{typesBad, be16}
 use Rattle.journal_spec.specs.Contents.{Contents, breaks}
-use Rattle.parts.specs.Bytes.{Reading, at, begun, pieced, byte, past, telling, tells}
+use Rattle.parts.specs.Bytes.{Reading, at, recordBegun, pieced, byte, past, telling, tells}
 
 abbrev pub reading : Bool → Part → ℕ → List ℕ → Reading
 reading o q n ps = record { opened = o; part = q; size = n; pieces = ps }
@@ -78,7 +78,7 @@ typed o n ps (a ∷ b ∷ j) =
 
 pub sized : (o : Bool) (n : ℕ) (ps j : List ℕ)
     → tells (reading o Length n ps) j
-    ≡ cond (ltb (length j) 2) breaks (onward (begun (reading o Kind n ps) (be16 j 0)) (drop 2 j))
+    ≡ cond (ltb (length j) 2) breaks (onward (recordBegun (reading o Kind n ps) (be16 j 0)) (drop 2 j))
 sized o n ps [] = tells-nil (reading o Length n ps)
 sized o n ps (a ∷ []) = tells-cons (reading o Length n ps) a [] ∙ tells-nil (reading o (Low a) n ps)
 sized o n ps (a ∷ b ∷ j) =

@@ -9,21 +9,21 @@ use borrow.Author.Tests.{le-ltb, eq-eqb, ne-eqb}
 use lib.ListN.{length, getD, take, drop, drop-of-length-le, length-drop}
 use lib.Seq.{drop-cons, take-all}
 use Rattle.parts.specs.declared.Part.the-variants.{Packet, Broken}
-use Rattle.journal_spec.specs.Contents.{zeros}
+use Rattle.journal_spec.specs.Contents.{areZeros}
 use Rattle.parts.specs.Bytes.{pieceEnd}
 
-pub zeros-not : (s : List ℕ) (i : ℕ) → i < length s → (getD s i 0 ≡ 0 → ⊥) → zeros (drop i s) ≡ false
+pub zeros-not : (s : List ℕ) (i : ℕ) → i < length s → (getD s i 0 ≡ 0 → ⊥) → areZeros (drop i s) ≡ false
 zeros-not s i h n = rw (drop-cons s i 0 h) (rw (ne-eqb (getD s i 0) 0 n))
 
-pub zeros-more : (s : List ℕ) (i : ℕ) → i < length s → getD s i 0 ≡ 0 → zeros (drop i s) ≡ zeros (drop (i + 1) s)
+pub zeros-more : (s : List ℕ) (i : ℕ) → i < length s → getD s i 0 ≡ 0 → areZeros (drop i s) ≡ areZeros (drop (i + 1) s)
 zeros-more s i h e = rw (add-one, drop-cons s i 0 h) (rw (eq-eqb (getD s i 0) 0 e))
 
-pub zeros-end : (s : List ℕ) (i : ℕ) → length s ≤ i → zeros (drop i s) ≡ true
+pub zeros-end : (s : List ℕ) (i : ℕ) → length s ≤ i → areZeros (drop i s) ≡ true
 zeros-end s i h = rw (drop-of-length-le s h)
 
 pub behind : (n : ℕ) (ps : List ℕ) → take (length ps - n) (drop n ps) ≡ drop n ps
 behind n ps = take-all (length ps - n) (drop n ps) (omega (arith, length-drop n ps))
 
 -- behind the last piece, by what was found of the filling
-pub end-by : (n : ℕ) (ps : List ℕ) (b : Bool) → n ≤ length ps → b ≡ zeros (take (length ps - n) (drop n ps)) → cond b Packet Broken ≡ pieceEnd n ps
-end-by n ps b h e = rw (le-ltb (length ps) n h) (ap (λ (x : Bool). cond x Packet Broken) (e ∙ ap zeros (behind n ps)))
+pub end-by : (n : ℕ) (ps : List ℕ) (b : Bool) → n ≤ length ps → b ≡ areZeros (take (length ps - n) (drop n ps)) → cond b Packet Broken ≡ pieceEnd n ps
+end-by n ps b h e = rw (le-ltb (length ps) n h) (ap (λ (x : Bool). cond x Packet Broken) (e ∙ ap areZeros (behind n ps)))

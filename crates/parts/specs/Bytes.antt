@@ -8,7 +8,7 @@ use Rattle.parts.specs.declared.Part.{Part}
 use Rattle.parts.specs.declared.Part.the-variants.{Kind, Types, Red, Length, Low, Piece, Time, Opened, Packet, Ended, Broken}
 use Rattle.packet_spec.specs.Header.{typesBad}
 use Rattle.journal_spec.specs.Records.{pieceLength, timeLength}
-use Rattle.journal_spec.specs.Contents.{Contents, opens, packet, ends, breaks, zeros, longestPacket}
+use Rattle.journal_spec.specs.Contents.{Contents, opens, packet, ends, breaks, areZeros, longestPacket}
 
 -- whether an open was read, where in a record the reading is, the length of the packet begun last, and its pieces' bytes
 pub record Reading : Type 0 where
@@ -17,8 +17,8 @@ pub record Reading : Type 0 where
   pub size : ℕ
   pub pieces : List ℕ
 
-abbrev pub fresh : Reading
-fresh = record { opened = false; part = Kind; size = 0; pieces = [] }
+abbrev pub freshReading : Reading
+freshReading = record { opened = false; part = Kind; size = 0; pieces = [] }
 
 abbrev pub at : Reading → Part → Reading
 at r q = record { opened = r .opened; part = q; size = r .size; pieces = r .pieces }
@@ -31,14 +31,14 @@ kindOf opened inside b =
     (cond opened (cond (eqb b 2) Length (cond (eqb b 0) Ended Broken)) (cond (eqb b 1) Types Broken)))
 
 -- a packet of n bytes begins
-abbrev pub begun : Reading → ℕ → Reading
-begun r n =
+abbrev pub recordBegun : Reading → ℕ → Reading
+recordBegun r n =
     cond (ltb longestPacket n) (at r Broken)
     (record { opened = r .opened; part = cond (eqb n 0) Packet Kind; size = n; pieces = [] })
 
 -- behind a whole piece, where ps are the bytes of the pieces
 abbrev pub pieceEnd : ℕ → List ℕ → Part
-pieceEnd n ps = cond (ltb (length ps) n) Kind (cond (zeros (drop n ps)) Packet Broken)
+pieceEnd n ps = cond (ltb (length ps) n) Kind (cond (areZeros (drop n ps)) Packet Broken)
 
 abbrev pub pieced : Reading → List ℕ → Reading
 pieced r ps = record { opened = r .opened; part = pieceEnd (r .size) ps; size = r .size; pieces = ps }
@@ -51,7 +51,7 @@ byteAt Kind r b = at r (kindOf (r .opened) (ltb (length (r .pieces)) (r .size)) 
 byteAt Types r b = at r (Red b)
 byteAt (Red t140) r b = at r (cond (typesBad t140 b) Broken (Opened t140 b))
 byteAt Length r b = at r (Low b)
-byteAt (Low high) r b = begun r (high * 256 + b)
+byteAt (Low high) r b = recordBegun r (high * 256 + b)
 byteAt (Piece n) r b = cond (leb n 1) (pieced r (r .pieces ++ b ∷ [])) (inPiece r (n - 1) (r .pieces ++ b ∷ []))
 byteAt (Time n) r b = cond (leb n 1) (at r Kind) (at r (Time (n - 1)))
 byteAt (Opened t140 red) r b = r

@@ -4,7 +4,7 @@ ghost use mathlib.Core.Bool.{cond, _&&_};
 ghost use Prim.Native.Nat.{_+_, _*_, _<_};
 ghost use lib.Dec.{ltb, leb};
 ghost use Rattle.packet_spec.specs.Header.{typesBad};
-ghost use Rattle.journal_spec.specs.Contents.{longestPacket, zeros};
+ghost use Rattle.journal_spec.specs.Contents.{longestPacket, areZeros};
 ghost use Rattle.parts.specs.Bytes.{going, kindOf, pieceEnd};
 ghost use Rattle.parts.specs.Sound.{wholePieces, soundPart};
 
@@ -99,7 +99,7 @@ pub fn opening(t140: u8, red: u8) -> Part
 }
 
 fn are_zeros(s: &[u8]) -> bool
-    ensures { λ r. ⌜ r ≡ zeros (now (s .entry)) ⌝ }
+    ensures { λ r. ⌜ r ≡ areZeros (now (s .entry)) ⌝ }
 {
     let mut i = 0;
     while i < s.len() {

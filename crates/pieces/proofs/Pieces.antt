@@ -14,7 +14,7 @@ use Rattle.base.proofs.Pasted.{put}
 use Rattle.packet_spec.specs.Redundancy.{joined}
 use Rattle.packet_spec.specs.Header.{be16}
 use Rattle.journal_spec.specs.Records.{Record, ending, opening, beginning, piece, time, bad, pieceLength, bodyLength, firstOf, recordsUpTo}
-use Rattle.pieces.specs.Pieces.{leading, piecesFirst}
+use Rattle.pieces.specs.internal.Pieces.{leading, piecesFirst}
 
 -- by way of z
 pub put-by : (p s z w ys p' : List ℕ) (from a : ℕ) → from + 16 ≤ length s → a + 16 ≤ length p → length z ≡ 16

@@ -6,7 +6,7 @@ ghost use lib.Seq.{paste};
 ghost use Rattle.base.specs.Arrays.{over};
 ghost use Rattle.packet_spec.specs.Redundancy.{joined};
 ghost use Rattle.journal_spec.specs.Records.{pieceLength};
-ghost use Rattle.pieces.specs.Pieces.{piecesFirst};
+ghost use Rattle.pieces.specs.internal.Pieces.{piecesFirst};
 use parts::Part;
 
 // A piece of the input to its place in the space. By way of an array of its own, all its bytes move at once.

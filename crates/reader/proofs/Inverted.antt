@@ -8,20 +8,20 @@ use Rattle.packet.specs.declared.Reading.{Reading}
 use Rattle.packet.specs.declared.Refusal.{Refusal}
 use Rattle.packet_spec.specs.Reading.{Content, Read, holds, refused}
 use Rattle.packet.specs.Refusal.{number, outcomeNumber}
-use Rattle.packet.specs.Places.{Numbered, numbered, placed, answer}
+use Rattle.packet.specs.Places.{ReadResult, numbered, placed, answer}
 use Rattle.packet_spec.proofs.Numbers.{Positive}
 use Rattle.packet.proofs.Names.{number-positive}
 
 -- the answer to a reading, by its outcome
 module _ (n : ℕ) (p : List ℕ) (x : Reading) where
   pub was-refused : (k : Refusal) (r : Read) → x .outcome ≡ Refused k → numbered x ≡ answer n p r → r ≡ refused (number k)
-  was-refused k (refused j) o e = ap refused (sym (ap (λ (a : Numbered). a .number) e) ∙ ap outcomeNumber o)
+  was-refused k (refused j) o e = ap refused (sym (ap (λ (a : ReadResult). a .number) e) ∙ ap outcomeNumber o)
   was-refused k (holds c) o e =
-      let z : number k ≡ 0 = sym (ap outcomeNumber o) ∙ ap (λ (a : Numbered). a .number) e in
+      let z : number k ≡ 0 = sym (ap outcomeNumber o) ∙ ap (λ (a : ReadResult). a .number) e in
       absurd (omega (arith, number-positive k))
 
   pub was-accepted : (r : Read) → Positive r → x .outcome ≡ Accepted → numbered x ≡ answer n p r → (c : Content) × (r ≡ holds c) × (x .packet ≡ placed n p c)
   was-accepted (refused j) h o e =
-      let z : 0 ≡ j = sym (ap outcomeNumber o) ∙ ap (λ (a : Numbered). a .number) e in
+      let z : 0 ≡ j = sym (ap outcomeNumber o) ∙ ap (λ (a : ReadResult). a .number) e in
       absurd (omega arith)
-  was-accepted (holds c) h o e = (c, refl, ap (λ (a : Numbered). a .packet) e)
+  was-accepted (holds c) h o e = (c, refl, ap (λ (a : ReadResult). a .packet) e)

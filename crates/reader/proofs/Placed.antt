@@ -16,11 +16,11 @@ use Rattle.packet_spec.specs.Limits.{level}
 use Rattle.packet_spec.specs.Header.{Expected, payloadType, headerEnd, payloadEnd, payload, paddingBad, markerOf, sequenceOf, timestampOf, sourceOf}
 use Rattle.packet_spec.specs.Redundancy.{Head, Heads, heads, bad, total, olderOf, primaryOf, joined}
 use Rattle.packet_spec.specs.Reading.{Content, holds, refused, headerChecks, headsOf, content, blockChecks, blocksRead, reading, blocks}
-use Rattle.packet.specs.Places.{Numbered, none, placesFrom, placed, refusedAnswer, answer, readOf}
-use Rattle.header.specs.Seen.{Seen, refusedHeader, passedHeader, headerOf}
-use Rattle.blocks.specs.Placing.{headPlaces}
-use Rattle.blocks.specs.Seen as seen
-use Rattle.blocks.specs.Seen.{refusedBlocks, placedBlocks, seenBehind, blocksOf}
+use Rattle.packet.specs.Places.{ReadResult, none, placesFrom, placed, refusedAnswer, answer, readOf}
+use Rattle.header.specs.internal.Seen.{HeaderSeen, refusedHeader, passedHeader, headerOf}
+use Rattle.blocks.specs.internal.Placing.{headPlaces}
+use Rattle.blocks.specs.internal.Seen as seen
+use Rattle.blocks.specs.internal.Seen.{refusedBlocks, placedBlocks, seenBehind, blocksSeenAt}
 use Rattle.base.specs.Checks.{numberBy}
 use Rattle.base.proofs.InOrder.{number-first, refused-by, passed-by, none-applies}
 use Rattle.packet_spec.proofs.Payload.{payload-inside}
@@ -38,7 +38,7 @@ older-places at (h ∷ hs) s f =
     ∙ ap (λ (l : List Older). record { offset = h .offset; at = at; len = h .len } ∷ l) (older-places (at + h .len) hs (drop (h .len) s) (omega arith))
 
 -- the packet by what is seen of its blocks
-abbrev withBlocks : List ℕ → seen.Seen → Packet
+abbrev withBlocks : List ℕ → seen.BlocksSeen → Packet
 withBlocks p b = record {
   marker = markerOf p;
   sequence = sequenceOf p;
@@ -70,7 +70,7 @@ placed-is p hs s fit room =
     }
 
 blocks-first : (p : List ℕ) (hs : List Head) (s : List ℕ) → seenBehind (payloadEnd p) (heads hs s) .number ≡ numberBy (blockChecks hs s)
-blocks-first p hs s = number-first (λ (b : seen.Seen). b .number) refusedBlocks (blockChecks hs s) (placedBlocks (payloadEnd p) hs s) (λ n. refl) refl
+blocks-first p hs s = number-first (λ (b : seen.BlocksSeen). b .number) refusedBlocks (blockChecks hs s) (placedBlocks (payloadEnd p) hs s) (λ n. refl) refl
 
 -- the blocks behind the headers
 module _ (p : List ℕ) where
@@ -88,14 +88,14 @@ module _ (p : List ℕ) where
       let fit : total hs ≤ length s = ltb-false (length s) (total hs) (none-applies (blockChecks hs s) (search needs) z .0) in
       let l : length (joined (blocks (content p hs s))) ≡ length s = ap length (cut-joined hs s) in
       let r : length (joined (blocks (content p hs s))) ≤ payloadEnd p = room (content p hs s) held in
-      ap (λ (x : seen.Seen). record { number = 0; packet = withBlocks p x }) (passed-by refusedBlocks (blockChecks hs s) (placedBlocks (payloadEnd p) hs s) (search needs) z)
+      ap (λ (x : seen.BlocksSeen). record { number = 0; packet = withBlocks p x }) (passed-by refusedBlocks (blockChecks hs s) (placedBlocks (payloadEnd p) hs s) (search needs) z)
       ∙ ap (λ (k : Packet). record { number = 0; packet = k }) (placed-is p hs s fit (omega arith))
       ∙ ap (answer level p) (sym held)
 
 module _ (e : Expected) (t140 red : ℕ) (p : List ℕ) where
   header-first : headerOf e t140 red p .number ≡ numberBy (headerChecks e t140 red p)
   unfolding headerOf
-  header-first = number-first (λ (h : Seen). h .number) refusedHeader (headerChecks e t140 red p) (passedHeader t140 p) (λ n. refl) refl
+  header-first = number-first (λ (h : HeaderSeen). h .number) refusedHeader (headerChecks e t140 red p) (passedHeader t140 p) (λ n. refl) refl
 
   pub header-refused : (n : ℕ) → 1 ≤ n → headerOf e t140 red p .number ≡ n → refusedAnswer level n ≡ readOf e t140 red p
   unfolding readOf reading
@@ -110,8 +110,8 @@ module _ (e : Expected) (t140 red : ℕ) (p : List ℕ) where
     unfolding headerOf
     header-passed = passed-by refusedHeader (headerChecks e t140 red p) (passedHeader t140 p) (search needs) no-check
 
-    abbrev pub blocksSeen : seen.Seen
-    blocksSeen = blocksOf (eqb (payloadType p) t140) t140 p (headerEnd p) (payloadEnd p)
+    abbrev pub blocksSeen : seen.BlocksSeen
+    blocksSeen = blocksSeenAt (eqb (payloadType p) t140) t140 p (headerEnd p) (payloadEnd p)
 
     starts : headerEnd p ≤ payloadEnd p
     starts = let n = none-applies (headerChecks e t140 red p) (search needs) no-check in payload-inside p (n .1 .1 .1 .1 .0) (n .1 .1 .1 .1 .1 .0)
@@ -128,11 +128,11 @@ module _ (e : Expected) (t140 red : ℕ) (p : List ℕ) where
     answered = ap (answer level p) read
 
     pub blocks-refused : (n : ℕ) → 1 ≤ n → blocksSeen .number ≡ n → refusedAnswer level n ≡ readOf e t140 red p
-    blocks-refused n l h = seen-refused p (headsOf level t140 p) n l (ap (λ (b : seen.Seen). b .number) (sym behind) ∙ h) ∙ sym answered
+    blocks-refused n l h = seen-refused p (headsOf level t140 p) n l (ap (λ (b : seen.BlocksSeen). b .number) (sym behind) ∙ h) ∙ sym answered
 
     pub blocks-placed : blocksSeen .number ≡ 0 → record { number = 0; packet = withBlocks p blocksSeen } ≡ readOf e t140 red p
     blocks-placed h =
-        ap (λ (b : seen.Seen). record { number = 0; packet = withBlocks p b }) behind
+        ap (λ (b : seen.BlocksSeen). record { number = 0; packet = withBlocks p b }) behind
         ∙ seen-placed p (headsOf level t140 p) (subst Positive read (reading-positive level e t140 red p)) (λ c q. lies level e t140 red p c (read ∙ q) .room)
-        (ap (λ (b : seen.Seen). b .number) (sym behind) ∙ h)
+        (ap (λ (b : seen.BlocksSeen). b .number) (sym behind) ∙ h)
         ∙ sym answered

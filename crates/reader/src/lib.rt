@@ -1,7 +1,7 @@
 // Reading a packet of an RTP text line: the header (RFC 3550), the blocks (RFC 2198), the text (RFC 4103, RFC 3629).
 ghost use mathlib.Core.Path.{_≡_};
 ghost use Rattle.packet_spec.specs.Header.{Any};
-ghost use Rattle.packet.specs.Places.{sourceOf, numbered, readOf};
+ghost use Rattle.packet.specs.Places.{expectedSource, numbered, readOf};
 use packet::Expected;
 use packet::Outcome;
 use packet::Packet;
@@ -9,7 +9,7 @@ use packet::Reading;
 
 // Reads a packet of the source that is expected.
 pub fn read_from(expected: Expected, t140: u8, red: u8, packet: &[u8]) -> Reading
-    ensures { λ r. ⌜ numbered r ≡ readOf (sourceOf expected) t140 red (now (packet .entry)) ⌝ }
+    ensures { λ r. ⌜ numbered r ≡ readOf (expectedSource expected) t140 red (now (packet .entry)) ⌝ }
 {
     let header = header::read(expected, t140, red, packet);
     let judged = header.outcome;

@@ -15,7 +15,7 @@ use Rattle.parts.specs.declared.Part.{Part}
 use Rattle.parts.specs.declared.Part.the-variants.{Kind, Types, Red, Length, Low, Piece, Time, Opened, Packet, Ended, Broken}
 use Rattle.reading.specs.declared.Reader.{Reader}
 use Rattle.reading.specs.Reading.{outside, with, broken}
-use Rattle.reading.specs.Bytes.{begunBy, byteAt, byteOf, timeOf, pastAt, pastOf}
+use Rattle.reading.specs.internal.Bytes.{begunBy, readerByte, byteOf, timeOf, pastAt, pastOf}
 
 module _ (r : Reader) (n : ℕ) where
   pub too-long : ltb longestPacket n ≡ true → broken r ≡ begunBy r n
@@ -34,15 +34,15 @@ module _ (r : Reader) (n : ℕ) where
   time-past m h = rw (le-ltb m n h)
 
 -- a byte, by the part that it falls on
-pub by-part : (r : Reader) (b : ℕ) (q : Part) (r' : Reader) → r .part ≡ q → r' ≡ byteAt q r b → r' ≡ byteOf r b
-by-part r b q r' e h = h ∙ ap (λ (x : Part). byteAt x r b) (sym e)
+pub by-part : (r : Reader) (b : ℕ) (q : Part) (r' : Reader) → r .part ≡ q → r' ≡ readerByte q r b → r' ≡ byteOf r b
+by-part r b q r' e h = h ∙ ap (λ (x : Part). readerByte x r b) (sym e)
 
 not-other : (n : ℕ) → OneOf (0 ∷ 5 ∷ 6 ∷ 7 ∷ 8 ∷ 9 ∷ 10 ∷ []) n → (0 < n) × (n ≤ 4) → ⊥
 not-other n h k =
     ⊎-elim (λ e. omega arith) (⊎-elim (λ e. omega arith) (⊎-elim (λ e. omega arith) (⊎-elim (λ e. omega arith) (⊎-elim (λ e. omega arith) (⊎-elim (λ e. omega arith) (λ e. omega arith)))))) h
 
 -- the parts on which no such byte falls
-pub other : (q : Part) (r : Reader) (b : ℕ) → OneOf (0 ∷ 5 ∷ 6 ∷ 7 ∷ 8 ∷ 9 ∷ 10 ∷ []) (Declared.tagOf the-type q) → r ≡ byteAt q r b
+pub other : (q : Part) (r : Reader) (b : ℕ) → OneOf (0 ∷ 5 ∷ 6 ∷ 7 ∷ 8 ∷ 9 ∷ 10 ∷ []) (Declared.tagOf the-type q) → r ≡ readerByte q r b
 other Kind r b h = refl
 other Types r b h = absurd (not-other 1 h (omega arith, omega arith))
 other (Red t140) r b h = absurd (not-other 2 h (omega arith, omega arith))

@@ -16,8 +16,8 @@ abbrev pub outside : Bool → Part → Reader
 outside o q = record { opened = o; part = q; size = 0; at = 0 }
 
 -- before the first byte
-abbrev pub start : Reader
-start = outside false Kind
+abbrev pub startReader : Reader
+startReader = outside false Kind
 
 -- the lent buffer begins with the pieces' bytes
 abbrev pub readingOf : Reader → List ℕ → Reading
@@ -29,10 +29,10 @@ with r q at = record { opened = r .opened; part = q; size = r .size; at = at }
 abbrev pub broken : Reader → Reader
 broken r = with r Broken (r .at)
 
--- a reader from which reading can go on: such are `start` and, again, those that calls leave
+-- a reader from which reading can go on: such are `startReader` and, again, those that calls leave
 abbrev pub sound : Reader → Bool
 sound r = soundPart (r .part) (r .size) (r .at)
 
 -- it is lent a buffer of so many bytes
-abbrev pub ready : Reader → ℕ → Bool
-ready r space = leb longestPacket space && sound r
+abbrev pub readerReady : Reader → ℕ → Bool
+readerReady r space = leb longestPacket space && sound r

@@ -3,8 +3,8 @@ ghost use mathlib.Core.Path.{_≡_};
 ghost use mathlib.Core.Bool.{cond};
 ghost use Prim.Native.Nat.{min};
 ghost use Rattle.parts.specs.Bytes.{going};
-ghost use Rattle.reading.specs.Reading.{start, outside, with, sound, ready};
-ghost use Rattle.reading.specs.Bytes.{begunBy, kindBy, byteOf, timeOf, pastOf};
+ghost use Rattle.reading.specs.Reading.{startReader, outside, with, sound, readerReady};
+ghost use Rattle.reading.specs.internal.Bytes.{begunBy, kindBy, byteOf, timeOf, pastOf};
 use parts::Part;
 
 // The first `at` bytes of the lent buffer are those of the pieces of the packet begun last, of `size` bytes.
@@ -38,7 +38,7 @@ impl Reader {
     }
 
     pub fn fresh() -> Reader
-        ensures { λ r. ⌜ r ≡ start ⌝ }
+        ensures { λ r. ⌜ r ≡ startReader ⌝ }
     {
         Reader::outside(false, Part::Kind)
     }
@@ -53,7 +53,7 @@ impl Reader {
 
     // And the lent buffer has the space.
     pub fn is_ready(self, space: usize) -> bool
-        ensures { λ r. ⌜ r ≡ ready self space ⌝ }
+        ensures { λ r. ⌜ r ≡ readerReady self space ⌝ }
     {
         if space < Reader::BUFFER {
             return false;

@@ -22,7 +22,7 @@ use Rattle.receiver_spec.specs.State.{Receiver, sourceExpected}
 use Rattle.receiver_spec.specs.Distance.{signed}
 use Rattle.receiver_spec.specs.Step.{movedTo, givenFrom, stepRead, firstStep, stepBy, stepOf}
 use Rattle.receiver_spec.specs.Answers.{Step, gives, refuses}
-use Rattle.receiver.specs.Accepted.{followed, laterBy, laterAccepted, acceptedStep}
+use Rattle.receiver.specs.internal.Accepted.{followed, laterBy, laterAccepted, acceptedStep}
 use Rattle.packet_spec.proofs.Numbers.{reading-positive}
 use Rattle.packet_spec.proofs.Runs.{reach, joined-split}
 use Rattle.packet_spec.proofs.Lies.{Lies, lies, few, blocks-length}

@@ -9,7 +9,7 @@ use Rattle.receiver.specs.declared.Answer.the-variants.{Refused, Late, F
 use Rattle.receiver.specs.declared.Advanced.{Advanced}
 use Rattle.receiver.specs.declared.Stepped.{Stepped}
 use Rattle.packet.specs.Refusal.{number, outcomeNumber}
-use Rattle.receiver_spec.specs.Answers.{Opening, Step, gives, isLate, refuses, Answered}
+use Rattle.receiver_spec.specs.Answers.{Opening, Step, gives, isLate, refuses, StepAnswer}
 use Rattle.receiver_spec.specs.State.{Receiver}
 use Rattle.receiver_spec.specs.Step.{stepOf, textGiven}
 
@@ -20,13 +20,13 @@ abbrev pub opening : Opened → Opening
 opening o = record { number = outcomeNumber (o .outcome); receiver = receiverOf (o .receiver) }
 
 -- 01's number and values for each case of an answer
-abbrev pub answered : Answer → Answered
-answered (Refused r) = refuses (number r)
-answered (Late d) = isLate d
-answered (Forward l d o g f t) = gives (record { loss = l; distance = d; older = o; given = g; from = f; to = t })
+abbrev pub stepAnswer : Answer → StepAnswer
+stepAnswer (Refused r) = refuses (number r)
+stepAnswer (Late d) = isLate d
+stepAnswer (Forward l d o g f t) = gives (record { loss = l; distance = d; older = o; given = g; from = f; to = t })
 
 abbrev pub advanced : Advanced → Step
-advanced a = record { receiver = receiverOf (a .receiver); answer = answered (a .answer) }
+advanced a = record { receiver = receiverOf (a .receiver); answer = stepAnswer (a .answer) }
 
 -- the step with its text: the receiver for the next packet, the answer, and the bytes handed out
 pub record Handed : Type 0 where
@@ -34,7 +34,7 @@ pub record Handed : Type 0 where
   pub text : List ℕ
 
 abbrev pub handed : Stepped → Handed
-handed s = record { step = record { receiver = receiverOf (s .receiver); answer = answered (s .answer) }; text = now (s .text) }
+handed s = record { step = record { receiver = receiverOf (s .receiver); answer = stepAnswer (s .answer) }; text = now (s .text) }
 
 abbrev pub handedOf : Receiver → List ℕ → Handed
 handedOf r p = record { step = stepOf r p; text = textGiven p (stepOf r p .answer) }

@@ -5,7 +5,7 @@ ghost use Rattle.packet_spec.specs.Limits.{level};
 ghost use Rattle.delivery.specs.Course as Course;
 ghost use Rattle.delivery.specs.Numbers as Numbers;
 ghost use Rattle.receiver_spec.specs.Distance as Distance;
-ghost use Rattle.receiver.specs.Accepted.{followed, laterAccepted, acceptedStep};
+ghost use Rattle.receiver.specs.internal.Accepted.{followed, laterAccepted, acceptedStep};
 ghost use Rattle.receiver.specs.View.{receiverOf, advanced};
 use crate::Advanced;
 use crate::Answer;

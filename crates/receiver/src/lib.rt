@@ -4,11 +4,11 @@ mod accepting;
 ghost use mathlib.Core.Path.{_≡_};
 ghost use mathlib.Core.Bool.{cond};
 ghost use Rattle.packet_spec.specs.Header.{Any, Only};
-ghost use Rattle.packet.specs.Places.{sourceOf};
-ghost use Rattle.receiver_spec.specs.Opening.{openingOf};
+ghost use Rattle.packet.specs.Places.{expectedSource};
+ghost use Rattle.receiver_spec.specs.Opening.{openReceiver};
 ghost use Rattle.receiver_spec.specs.State.{freshReceiver};
 ghost use Rattle.receiver_spec.specs.Step.{stepOf, textGiven};
-ghost use Rattle.receiver.specs.View.{receiverOf, opening, answered, advanced, handed, handedOf};
+ghost use Rattle.receiver.specs.View.{receiverOf, opening, stepAnswer, advanced, handed, handedOf};
 use packet::Expected;
 use packet::Outcome;
 use packet::Refusal;
@@ -72,7 +72,7 @@ fn fresh(t140: u8, red: u8) -> Receiver
 
 // The source that a packet must have: any, before the first accepted one.
 fn source_expected(known: bool, source: u32) -> Expected
-    ensures { λ r. ⌜ sourceOf r ≡ cond known (Only source) Any ⌝ }
+    ensures { λ r. ⌜ expectedSource r ≡ cond known (Only source) Any ⌝ }
 {
     if known {
         return Expected::Only(source);
@@ -82,7 +82,7 @@ fn source_expected(known: bool, source: u32) -> Expected
 
 impl Receiver {
     pub fn open(t140: u8, red: u8) -> Opened
-        ensures { λ r. ⌜ opening r ≡ openingOf t140 red ⌝ }
+        ensures { λ r. ⌜ opening r ≡ openReceiver t140 red ⌝ }
     {
         if header::types_bad(t140, red) {
             return Opened {
@@ -112,7 +112,7 @@ impl Receiver {
 
     // The step on a receiver that is lent and changed in place.
     pub fn step_in_place(&mut self, packet: &[u8]) -> Answer
-        ensures { λ r. ⌜ (answered r ≡ stepOf (receiverOf (now (self .entry))) (now (packet .entry)) .answer) × (receiverOf (now (self .exit)) ≡ stepOf (receiverOf (now (self .entry))) (now (packet .entry)) .receiver) ⌝ }
+        ensures { λ r. ⌜ (stepAnswer r ≡ stepOf (receiverOf (now (self .entry))) (now (packet .entry)) .answer) × (receiverOf (now (self .exit)) ≡ stepOf (receiverOf (now (self .entry))) (now (packet .entry)) .receiver) ⌝ }
     {
         let advanced = (*self).advance(packet);
         *self = advanced.receiver;
@@ -141,7 +141,7 @@ impl Receiver {
 
 // The text that an answer hands out, of the packet that was answered.
 pub fn text(packet: &[u8], answer: Answer) -> &[u8]
-    ensures { λ r. ⌜ now r ≡ textGiven (now (packet .entry)) (answered answer) ⌝ }
+    ensures { λ r. ⌜ now r ≡ textGiven (now (packet .entry)) (stepAnswer answer) ⌝ }
 {
     match answer {
         Answer::Refused(_) => &packet[..0],

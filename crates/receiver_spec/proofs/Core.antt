@@ -11,10 +11,10 @@ use Rattle.packet_spec.specs.Limits.{level}
 use Rattle.packet_spec.specs.Redundancy.{blocksOf}
 use Rattle.packet_spec.specs.Reading.{Content, Read, holds, refused, reading}
 use Rattle.delivery.specs.Course.{courseOf, late, forward, Course, distance, wanted, loss}
-use Rattle.delivery.specs.Core as core
+use Rattle.delivery.specs.internal.Core as core
 use Rattle.delivery.specs.Record.{Entry, entries, lastOf}
-use Rattle.delivery.specs.Sending.{Sender}
-use Rattle.delivery.specs.Core.{sent}
+use Rattle.delivery.specs.Sending.{BlockSender}
+use Rattle.delivery.specs.internal.Core.{sent}
 use Rattle.receiver_spec.specs.Step.{stepRead, firstStep, stepBy, stepOf}
 use Rattle.receiver_spec.specs.Record.{blocksIn, blocksGiven, entriesOf, recordOf, acceptedOf}
 use Rattle.receiver_spec.specs.Answers.{isAccepted}
@@ -33,7 +33,7 @@ abbrev packets : Receiver → List (List ℕ) → List core.Packet
 packets r [] = []
 packets r (p ∷ ps) = packetsRead (readBy r p) ++ packets (stepOf r p .receiver) ps
 
-abbrev pub state : Receiver → core.Receiver
+abbrev pub state : Receiver → core.BlockReceiver
 state r = cond (r .hasSource) (core.expects (r .expected)) core.fresh
 
 -- one step: what it adds to the record, and the receiver after it
@@ -41,7 +41,7 @@ module _ (r : Receiver) (p : List ℕ) (c : Content) (e : readBy r p ≡ holds c
   same-length : length (map (λ b. b .bytes) (c .older)) ≡ length (c .older)
   same-length = length-map (c .older) (λ b. b .bytes)
 
-  given-is : (w : ℕ) → w ≤ length (c .older) → lastOf (suc w) (blocksOf (c .older) (c .primary)) ≡ core.blocksGiven w (packetOf c)
+  given-is : (w : ℕ) → w ≤ length (c .older) → lastOf (suc w) (blocksOf (c .older) (c .primary)) ≡ core.lastBlocks w (packetOf c)
   given-is w h = last-snoc w (map (λ b. b .bytes) (c .older)) (c .primary) (omega (arith, same-length))
 
   adds-is : (h : Bool) (v : Course) (d : ℕ)
@@ -49,16 +49,16 @@ module _ (r : Receiver) (p : List ℕ) (c : Content) (e : readBy r p ≡ holds c
   adds-is true forward d =
       ap (λ (x : Read). entries (loss d (length (c .older))) (lastOf (suc (wanted d (length (c .older)))) (blocksIn x))) e
       ∙ ap (entries (loss d (length (c .older)))) (given-is (wanted d (length (c .older))) (omega arith))
-      ∙ ap (λ (k : ℕ). entries (loss d k) (core.blocksGiven (wanted d k) (packetOf c))) (sym same-length)
+      ∙ ap (λ (k : ℕ). entries (loss d k) (core.lastBlocks (wanted d k) (packetOf c))) (sym same-length)
   adds-is true late d = refl
   adds-is false v d =
       ap (λ (x : Read). entries 0 (lastOf (suc (length (c .older))) (blocksIn x))) e
       ∙ ap (entries 0) (given-is (length (c .older)) (omega arith))
-      ∙ ap (λ (k : ℕ). entries 0 (core.blocksGiven k (packetOf c))) (sym same-length)
+      ∙ ap (λ (k : ℕ). entries 0 (core.lastBlocks k (packetOf c))) (sym same-length)
 
   after-is : (h : Bool) (v : Course) (d : ℕ)
       → state (cond h (stepBy v (record { t140 = r .t140; red = r .red; hasSource = h; source = r .source; expected = r .expected }) p c d) (firstStep r p c) .receiver)
-      ≡ cond h (core.afterAt v (r .expected) (packetOf c)) (core.after core.fresh (packetOf c))
+      ≡ cond h (core.receiverAfterAt v (r .expected) (packetOf c)) (core.receiverAfter core.fresh (packetOf c))
   after-is true forward d = refl
   after-is true late d = refl
   after-is false v d = refl
@@ -69,7 +69,7 @@ adds-state true x k = refl
 adds-state false x k = refl
 
 after-state : (h : Bool) (x : ℕ) (k : core.Packet)
-    → cond h (core.afterAt (courseOf (distance (k .sequence) x)) x k) (core.after core.fresh k) ≡ core.after (cond h (core.expects x) core.fresh) k
+    → cond h (core.receiverAfterAt (courseOf (distance (k .sequence) x)) x k) (core.receiverAfter core.fresh k) ≡ core.receiverAfter (cond h (core.expects x) core.fresh) k
 after-state true x k = refl
 after-state false x k = refl
 
@@ -80,14 +80,14 @@ module _ (r : Receiver) (p : List ℕ) (c : Content) (e : readBy r p ≡ holds c
   pub step-adds : entriesOf r p (stepRead r p (holds c) .answer) ≡ core.adds (state r) (packetOf c)
   step-adds = adds-is r p c e (r .hasSource) (courseOf d) d ∙ adds-state (r .hasSource) (r .expected) (packetOf c)
 
-  pub step-after : state (stepRead r p (holds c) .receiver) ≡ core.after (state r) (packetOf c)
+  pub step-after : state (stepRead r p (holds c) .receiver) ≡ core.receiverAfter (state r) (packetOf c)
   step-after = after-is r p c e (r .hasSource) (courseOf d) d ∙ after-state (r .hasSource) (r .expected) (packetOf c)
 
 one-step : (r : Receiver) (p : List ℕ) (rest : List core.Packet) (x : Read) → readBy r p ≡ x
     → entriesOf r p (stepRead r p x .answer) ++ core.recordFrom (state (stepRead r p x .receiver)) rest ≡ core.recordFrom (state r) (packetsRead x ++ rest)
 one-step r p rest (refused n) e = refl
 one-step r p rest (holds c) e =
-    ap₂ {C = List Entry} (λ a b. a ++ b) (step-adds r p c e) (ap (λ (t : core.Receiver). core.recordFrom t rest) (step-after r p c e))
+    ap₂ {C = List Entry} (λ a b. a ++ b) (step-adds r p c e) (ap (λ (t : core.BlockReceiver). core.recordFrom t rest) (step-after r p c e))
 
 pub same-record : (ps : List (List ℕ)) (r : Receiver) → recordOf stepOf r ps ≡ core.recordFrom (state r) (packets r ps)
 unfolding stepOf
@@ -121,7 +121,7 @@ accepts r p c = by (r .hasSource) (courseOf (distance (c .sequence) (r .expected
     by false v = refl
 
 -- a sender's packets, wherever they are read, are the core's
-module _ (t140 red : ℕ) (S : Sender) (packet : ℕ → List ℕ)
+module _ (t140 red : ℕ) (S : BlockSender) (packet : ℕ → List ℕ)
     (reads : (k : ℕ) (c : Content) → reading level Any t140 red (packet k) ≡ holds c → packetOf c ≡ sent S k) where
   pub same-packets : (ps : List (List ℕ)) (r : Receiver) → r .t140 ≡ t140 → r .red ≡ red → (ks : List ℕ)
       → acceptedOf stepOf r ps ≡ map packet ks → packets r ps ≡ map (sent S) ks

@@ -8,7 +8,7 @@ use native.Mathlib.Omega.{arith}
 use Rattle.delivery.specs.Record.{Entry, block}
 use Rattle.receiver_spec.specs.State.{Receiver}
 use Rattle.receiver_spec.specs.Step.{stepOf}
-use Rattle.receiver_spec.specs.Answers.{gives, isLate, refuses, Answered, isAccepted}
+use Rattle.receiver_spec.specs.Answers.{gives, isLate, refuses, StepAnswer, isAccepted}
 use Rattle.receiver_spec.specs.Record.{entriesOf, recordOf, acceptedOf}
 
 -- packet by packet, and block by block
@@ -17,7 +17,7 @@ pub data OneEach : Receiver → List (List ℕ) → List (List ℕ) → Type 0 w
   one : (r : Receiver) (p b : List ℕ) {ps bs : List (List ℕ)} → entriesOf r p (stepOf r p .answer) ≡ block b ∷ [] → OneEach (stepOf r p .receiver) ps bs → OneEach r (p ∷ ps) (b ∷ bs)
 
 -- what adds something was accepted
-adds-accepted : (r : Receiver) (p b : List ℕ) (a : Answered) → entriesOf r p a ≡ block b ∷ [] → isAccepted a ≡ true
+adds-accepted : (r : Receiver) (p b : List ℕ) (a : StepAnswer) → entriesOf r p a ≡ block b ∷ [] → isAccepted a ≡ true
 adds-accepted r p b (refuses n) e = absurd (let z : _≡_ {A = ℕ} 0 1 = ap length e in omega arith)
 adds-accepted r p b (isLate z) e = refl
 adds-accepted r p b (gives g) e = refl

@@ -13,9 +13,9 @@ use Rattle.delivery.specs.Course.{courseOf, late, forward, Course, distance, wa
 use Rattle.receiver_spec.specs.State.{Receiver, readBy, sourceExpected}
 use Rattle.receiver_spec.specs.Distance.{signed}
 use Rattle.receiver_spec.specs.Step.{givenFrom, stepRead, firstStep, stepBy, stepOf}
-use Rattle.receiver_spec.specs.Answers.{gives, isLate, refuses, Answered}
+use Rattle.receiver_spec.specs.Answers.{gives, isLate, refuses, StepAnswer}
 
-abbrev pub Within : List ℕ → Answered → Type 0
+abbrev pub Within : List ℕ → StepAnswer → Type 0
 Within p (refuses n) = Unit {0}
 Within p (isLate z) = Unit {0}
 Within p (gives g) = (g .from ≤ g .to) × (g .to ≤ length p)

@@ -20,17 +20,17 @@ pub record Given : Type 0 where
   pub to : ℕ
 
 -- an answer by 01's numbers
-pub data Answered : Type 0 where
-  refuses : ℕ → Answered
-  isLate : ℤ → Answered
-  gives : Given → Answered
+pub data StepAnswer : Type 0 where
+  refuses : ℕ → StepAnswer
+  isLate : ℤ → StepAnswer
+  gives : Given → StepAnswer
 
 pub record Step : Type 0 where
   pub receiver : Receiver
-  pub answer : Answered
+  pub answer : StepAnswer
 
 -- accepted: answered without a refusal number, late or not
-abbrev pub isAccepted : Answered → Bool
+abbrev pub isAccepted : StepAnswer → Bool
 isAccepted (refuses n) = false
 isAccepted (isLate z) = true
 isAccepted (gives g) = true

@@ -4,8 +4,8 @@ use Rattle.base.specs.Checks.{checked}
 use Rattle.receiver_spec.specs.State.{freshReceiver, zeroReceiver, openingChecks}
 use Rattle.receiver_spec.specs.Answers.{Opening}
 
-abbrev pub openingRefused : ℕ → Opening
-openingRefused n = record { number = n; receiver = zeroReceiver }
+abbrev pub receiverRefused : ℕ → Opening
+receiverRefused n = record { number = n; receiver = zeroReceiver }
 
-abbrev pub openingOf : ℕ → ℕ → Opening
-openingOf t140 red = checked openingRefused (openingChecks t140 red) (record { number = 0; receiver = freshReceiver t140 red })
+abbrev pub openReceiver : ℕ → ℕ → Opening
+openReceiver t140 red = checked receiverRefused (openingChecks t140 red) (record { number = 0; receiver = freshReceiver t140 red })

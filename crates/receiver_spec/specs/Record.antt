@@ -5,7 +5,7 @@ use mathlib.Core.List.{List, [], _∷_, _++_}
 use Rattle.packet_spec.specs.Reading.{Read, holds, refused, blocks}
 use Rattle.delivery.specs.Record.{Entry, entries, lastOf}
 use Rattle.receiver_spec.specs.State.{Receiver, readBy}
-use Rattle.receiver_spec.specs.Answers.{Answered, refuses, isLate, gives, Step, isAccepted}
+use Rattle.receiver_spec.specs.Answers.{StepAnswer, refuses, isLate, gives, Step, isAccepted}
 
 -- the blocks of a packet, oldest first and the primary last
 abbrev pub blocksIn : Read → List (List ℕ)
@@ -13,17 +13,17 @@ blocksIn (refused n) = []
 blocksIn (holds c) = blocks c
 
 -- the last blocks of the packet, as many as the answer says
-abbrev pub blocksGiven : Receiver → List ℕ → Answered → List (List ℕ)
+abbrev pub blocksGiven : Receiver → List ℕ → StepAnswer → List (List ℕ)
 blocksGiven r p (refuses n) = []
 blocksGiven r p (isLate z) = []
 blocksGiven r p (gives g) = lastOf (g .given) (blocksIn (readBy r p))
 
-abbrev pub lossOf : Answered → ℕ
+abbrev pub lossOf : StepAnswer → ℕ
 lossOf (refuses n) = 0
 lossOf (isLate z) = 0
 lossOf (gives g) = g .loss
 
-abbrev pub entriesOf : Receiver → List ℕ → Answered → List Entry
+abbrev pub entriesOf : Receiver → List ℕ → StepAnswer → List Entry
 entriesOf r p a = entries (lossOf a) (blocksGiven r p a)
 
 -- the record of a list of packets, and those of them that are accepted, by a receiver's step: each call gets the receiver that

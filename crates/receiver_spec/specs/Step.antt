@@ -13,7 +13,7 @@ use Rattle.delivery.specs.Record.{lastOf}
 use Rattle.delivery.specs.Course.{distance, Course, forward, late, courseOf, loss, wanted}
 use Rattle.receiver_spec.specs.Distance.{signed}
 use Rattle.receiver_spec.specs.State.{Receiver, readBy}
-use Rattle.receiver_spec.specs.Answers.{Given, Answered, refuses, isLate, gives, Step}
+use Rattle.receiver_spec.specs.Answers.{Given, StepAnswer, refuses, isLate, gives, Step}
 
 -- an accepted packet fixes the source, and the next number is expected
 abbrev pub movedTo : Receiver → Content → Receiver
@@ -52,7 +52,7 @@ unfoldable pub stepOf : Receiver → List ℕ → Step
 stepOf r p = stepRead r p (readBy r p)
 
 -- the text handed out: the part of the packet from the first wanted block to the primary's end
-abbrev pub textGiven : List ℕ → Answered → List ℕ
+abbrev pub textGiven : List ℕ → StepAnswer → List ℕ
 textGiven p (refuses n) = []
 textGiven p (isLate z) = []
 textGiven p (gives g) = part (g .from) (g .to) p

@@ -12,9 +12,9 @@ use Rattle.base.specs.Arrays.{over}
 use Rattle.base.proofs.Tests.{by-test}
 use Rattle.parts.specs.declared.Part.{Part}
 use Rattle.parts.specs.declared.Part.the-variants.{Kind, Types, Red, Length, Low, Piece, Time, Opened, Packet, Ended, Broken}
-use Rattle.journal_spec.specs.Contents.{zeros}
+use Rattle.journal_spec.specs.Contents.{areZeros}
 use Rattle.parts.specs.Bytes.{Reading, readTo, going, byteAt, byte, pieced}
-use Rattle.records.specs.Turns.{lentAfter}
+use Rattle.records.specs.internal.Turns.{lentAfter}
 
 -- from here on the pieces only grow until reading stops
 abbrev growing : Part → ℕ → List ℕ → Bool
@@ -40,7 +40,7 @@ record Grew (n : ℕ) (r : Reading) : Type 0 where
 -- behind a whole piece the packet goes on or reading stops
 pub grows-end : (r : Reading) (ps : List ℕ) → Growing (pieced r ps)
 grows-end r ps =
-    by-test P (ltb (length ps) (r .size)) (λ h. h) (λ _. by-test P (zeros (drop (r .size) ps)) (λ _. refl) (λ _. refl))
+    by-test P (ltb (length ps) (r .size)) (λ h. h) (λ _. by-test P (areZeros (drop (r .size) ps)) (λ _. refl) (λ _. refl))
   where
     P : Part → Type 0
     P q = growing q (r .size) ps ≡ true

@@ -20,9 +20,9 @@ use Rattle.parts.specs.Bytes.{Reading, going, byte, inPiece, pieceEnd}
 use Rattle.parts.specs.Sound.{wholePieces}
 use Rattle.parts.proofs.Laws.{Moves, andThen, stays, first, piece-end}
 use Rattle.parts.proofs.Sound.{whole, whole-is}
-use Rattle.pieces.specs.Pieces.{piecesFirst}
+use Rattle.pieces.specs.internal.Pieces.{piecesFirst}
 use Rattle.pieces.proofs.Pieces.{First, no, one, first-is, none-asked, sizes}
-use Rattle.records.specs.Turns.{inPacket, Gathers}
+use Rattle.records.specs.internal.Turns.{inPacket, Gathers}
 
 one-piece : (o : Bool) (size : ℕ) (ps s : List ℕ) → length ps < size → 17 ≤ length s → getD s 0 0 ≡ 3
     → Moves (inPacket o size ps) s (inPacket o size (ps ++ take 16 (drop 1 s))) (drop 17 s)

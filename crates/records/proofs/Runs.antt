@@ -10,9 +10,9 @@ use Rattle.journal_spec.specs.Contents.{longestPacket}
 use Rattle.base.specs.Arrays.{over}
 use Rattle.reading.specs.declared.Reader.{Reader}
 use Rattle.parts.specs.Bytes.{Reading, readTo, unread, going}
-use Rattle.reading.specs.Reading.{readingOf, sound, ready}
-use Rattle.records.specs.Reading.{ReadAll, Read}
-use Rattle.records.specs.Turns.{Went, Turned, lentAfter}
+use Rattle.reading.specs.Reading.{readingOf, sound, readerReady}
+use Rattle.records.specs.internal.Reading.{ReadAll, RecordsRead}
+use Rattle.records.specs.internal.Turns.{Went, Turned, lentAfter}
 use borrow.Author.Tests.{leb-true}
 use lib.Dec.{leb}
 use Rattle.base.proofs.Tests.{and-left, and-right}
@@ -74,12 +74,12 @@ turn-last r₀ p₀ s r p i w r' p' n t big z =
     let e : i + n ≡ i = omega arith in
     at-stop r₀ p₀ s r' p' i (rw e at (went-on r₀ p₀ s r p i w r' p' n (t .goes))) big (t .stops z)
 
-pub ready-is : (r : Reader) (n : ℕ) (b : Bool) → b ≡ ready r n → b ≡ true → (sound r ≡ true) × (longestPacket ≤ n)
+pub ready-is : (r : Reader) (n : ℕ) (b : Bool) → b ≡ readerReady r n → b ≡ true → (sound r ≡ true) × (longestPacket ≤ n)
 ready-is r n b e h = let w = sym e ∙ h in (and-right (leb longestPacket n) _ w, leb-true longestPacket n (and-left (leb longestPacket n) _ w))
 
-module _ (r : Reader) (p s : List ℕ) (b : Bool) (e : b ≡ ready r (length p)) where
-  pub read-on : b ≡ true → (r' : Reader) (p' : List ℕ) (used : ℕ) → ReadAll r p s r' p' used → Read r p s r' p' used
+module _ (r : Reader) (p s : List ℕ) (b : Bool) (e : b ≡ readerReady r (length p)) where
+  pub read-on : b ≡ true → (r' : Reader) (p' : List ℕ) (used : ℕ) → ReadAll r p s r' p' used → RecordsRead r p s r' p' used
   read-on h r' p' used w = rw (sym e ∙ h) w
 
-  pub read-not : b ≡ false → Read r p s r p 0
+  pub read-not : b ≡ false → RecordsRead r p s r p 0
   read-not h = rw (sym e ∙ h) (record { reader = refl; packet = refl; none = refl })

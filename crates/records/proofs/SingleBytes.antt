@@ -19,11 +19,11 @@ use Rattle.parts.specs.declared.Part.{Part}
 use Rattle.parts.specs.declared.Part.the-variants.{Kind, Types, Red, Length, Low, Piece, Time, Opened, Packet, Ended, Broken}
 use Rattle.reading.specs.declared.Reader.{Reader}
 use Rattle.journal_spec.specs.Contents.{longestPacket}
-use Rattle.parts.specs.Bytes.{going, byteAt, at, kindOf, begun}
+use Rattle.parts.specs.Bytes.{going, byteAt, at, kindOf, recordBegun}
 use Rattle.reading.specs.Reading.{readingOf, with, broken, sound}
-use Rattle.reading.specs.Bytes.{begunBy, kindBy, byteOf}
-use Rattle.reading.specs.Bytes as Readers
-use Rattle.records.specs.Turns.{Turned}
+use Rattle.reading.specs.internal.Bytes.{begunBy, kindBy, byteOf}
+use Rattle.reading.specs.internal.Bytes as Readers
+use Rattle.records.specs.internal.Turns.{Turned}
 use Rattle.parts.proofs.Laws.{stays, first}
 use Rattle.parts.specs.Sound.{wholePieces, soundAt}
 use Rattle.parts.proofs.Sound.{whole, whole-is}
@@ -106,7 +106,7 @@ module _ (r : Reader) (p s : List ℕ) (ok : sound r ≡ true) (some : 0 < lengt
       P : Part → Type 0
       P x = soundAt x n 0 ≡ true
 
-  pub begun-is : (n : ℕ) → begun (readingOf r p) n ≡ readingOf (begunBy r n) p
+  pub begun-is : (n : ℕ) → recordBegun (readingOf r p) n ≡ readingOf (begunBy r n) p
   begun-is n = go (ltb longestPacket n)
     where
       go : (b : Bool) → cond b (at (readingOf r p) Broken) (record { opened = r .opened; part = cond (eqb n 0) Packet Kind; size = n; pieces = [] })
@@ -117,7 +117,7 @@ module _ (r : Reader) (p s : List ℕ) (ok : sound r ≡ true) (some : 0 < lengt
   turn-low : (a n : ℕ) → r .part ≡ Low a → n ≡ a * 256 + getD s 0 0 → (d : Reader) → d ≡ begunBy r n → Turned r p s d p 1
   turn-low a n e k d i =
       rw i (by-byte (Low a) e refl (begunBy r n) (sound-begun n (at-part r ok (Low a) e))
-      (ap (begun (readingOf r p)) (sym k) ∙ begun-is n))
+      (ap (recordBegun (readingOf r p)) (sym k) ∙ begun-is n))
 
   turn-none : going (r .part) ≡ false → Turned r p s r p 0
   turn-none h = record { goes = went ok (omega arith) stays; stops = λ _. h }
@@ -128,7 +128,7 @@ module _ (r : Reader) (p s : List ℕ) (ok : sound r ≡ true) (some : 0 < lengt
   pub turn-kind-byte : r .part ≡ Kind → (r' : Reader) → r' ≡ kindBy r v → Turned r p s r' p 1
   turn-kind-byte e r' re = rw re (turn-kind e _ refl)
 
-  by-part : (q : Part) → r .part ≡ q → Single q → Turned r p s (Readers.byteAt q r v) p (cond (going q) 1 0)
+  by-part : (q : Part) → r .part ≡ q → Single q → Turned r p s (Readers.readerByte q r v) p (cond (going q) 1 0)
   by-part Kind e h = absurd h
   by-part Types e h = turn-types e
   by-part (Red a) e h = turn-red a e _ refl
@@ -143,7 +143,7 @@ module _ (r : Reader) (p s : List ℕ) (ok : sound r ≡ true) (some : 0 < lengt
 
   pub turn-byte : (q : Part) → r .part ≡ q → Single q → (r' : Reader) (n : ℕ) → r' ≡ byteOf r v → n ≡ cond (going (r .part)) 1 0 → Turned r p s r' p n
   turn-byte q e h r' n re ne =
-      rw (re ∙ ap (λ (x : Part). Readers.byteAt x r v) e, ne ∙ ap (λ (x : Part). cond (going x) 1 0) e) (by-part q e h)
+      rw (re ∙ ap (λ (x : Part). Readers.readerByte x r v) e, ne ∙ ap (λ (x : Part). cond (going x) 1 0) e) (by-part q e h)
 
 not-single : (n : ℕ) → OneOf (1 ∷ 2 ∷ 3 ∷ 4 ∷ 7 ∷ 8 ∷ 9 ∷ 10 ∷ []) n → (4 < n) × (n < 7) → ⊥
 not-single n h k =

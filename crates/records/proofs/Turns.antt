@@ -15,11 +15,11 @@ use Rattle.base.proofs.Pasted.{gathered, same, behind-stays}
 use Rattle.parts.specs.declared.Part.{Part}
 use Rattle.parts.specs.declared.Part.the-variants.{Kind, Piece, Time}
 use Rattle.reading.specs.declared.Reader.{Reader}
-use Rattle.journal_spec.specs.Contents.{zeros, longestPacket}
+use Rattle.journal_spec.specs.Contents.{areZeros, longestPacket}
 use Rattle.parts.specs.Bytes.{Reading, inPiece, at, pieceEnd}
 use Rattle.reading.specs.Reading.{readingOf, with, sound}
-use Rattle.reading.specs.Bytes.{timeOf}
-use Rattle.records.specs.Turns.{Went, Turned}
+use Rattle.reading.specs.internal.Bytes.{timeOf}
+use Rattle.records.specs.internal.Turns.{Went, Turned}
 use Rattle.parts.proofs.Laws.{Moves, piece-part, piece-end, time-part, time-end}
 use Rattle.parts.specs.Sound.{wholePieces, soundAt}
 use Rattle.parts.proofs.Sound.{whole, whole-is}
@@ -62,7 +62,7 @@ pub sound-end : (r : Reader) (a : ℕ) (ps : List ℕ) → r .size ≤ longestPa
 sound-end r a ps h l f w =
     both (le-leb (r .size) longestPacket h)
     (by-test P (ltb (length ps) (r .size)) (λ _. whole a f w)
-    (λ i. by-test P (zeros (drop (r .size) ps)) (λ _. both (le-leb (r .size) a (omega (arith, ltb-false (length ps) (r .size) i))) (whole a f w)) (λ _. whole a f w)))
+    (λ i. by-test P (areZeros (drop (r .size) ps)) (λ _. both (le-leb (r .size) a (omega (arith, ltb-false (length ps) (r .size) i))) (whole a f w)) (λ _. whole a f w)))
   where
     P : Part → Type 0
     P q = soundAt q (r .size) a ≡ true

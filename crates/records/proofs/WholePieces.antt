@@ -12,10 +12,10 @@ use Rattle.journal_spec.specs.Contents.{longestPacket}
 use Rattle.parts.specs.declared.Part.{Part}
 use Rattle.parts.specs.declared.Part.the-variants.{Kind, Length, Low}
 use Rattle.reading.specs.declared.Reader.{Reader}
-use Rattle.parts.specs.Bytes.{Reading, going, byte, at, begun, pieceEnd}
+use Rattle.parts.specs.Bytes.{Reading, going, byte, at, recordBegun, pieceEnd}
 use Rattle.parts.specs.Sound.{wholePieces}
 use Rattle.reading.specs.Reading.{readingOf, with, broken, sound}
-use Rattle.records.specs.Turns.{inPacket, Gathers, Turned}
+use Rattle.records.specs.internal.Turns.{inPacket, Gathers, Turned}
 use Rattle.parts.proofs.Laws.{Moves, andThen, step}
 use Rattle.base.proofs.Tests.{both}
 use Rattle.parts.proofs.Sound.{whole-is}
@@ -58,7 +58,7 @@ module _ (r : Reader) (p s : List ℕ) (e : r .part ≡ Kind) (ok : sound r ≡ 
       turn-no-piece h r' n t = rw (← (g .none h .1)) t
 
 three : (r : Reading) (s : List ℕ) → r .part ≡ Kind → r .opened ≡ true → r .size ≤ length (r .pieces) → 2 < length s → getD s 0 0 ≡ 2
-    → Moves r s (begun r (getD s 1 0 * 256 + getD s 2 0)) (drop 3 s)
+    → Moves r s (recordBegun r (getD s 1 0 * 256 + getD s 2 0)) (drop 3 s)
 three r [] e o h l k = absurd (let z : 2 < 0 = l in omega arith)
 three r (a ∷ []) e o h l k = absurd (let z : 2 < 1 = l in omega arith)
 three r (a ∷ b ∷ []) e o h l k = absurd (let z : 2 < 2 = l in omega arith)
@@ -69,7 +69,7 @@ three r (a ∷ b ∷ c ∷ t) e o h l k =
 
 module _ (r : Reader) (p s : List ℕ) (e : r .part ≡ Kind) (ok : sound r ≡ true) (there : 2 < length s) (big : longestPacket ≤ length p) (outside : r .size ≤ r .at)
     (o : r .opened ≡ true) (k : getD s 0 0 ≡ 2) (n : ℕ) (c : n ≡ getD s 1 0 * 256 + getD s 2 0) where
-  head : Moves (readingOf r p) s (begun (readingOf r p) n) (drop 3 s)
+  head : Moves (readingOf r p) s (recordBegun (readingOf r p) n) (drop 3 s)
   head =
       let l : length (take (r .at) p) ≡ r .at = length-take-le (r .at) p (omega (arith, kind-whole r p s e ok big)) in
       rw (← c) at (three (readingOf r p) s e o (omega arith) there k)
@@ -80,7 +80,7 @@ module _ (r : Reader) (p s : List ℕ) (e : r .part ≡ Kind) (ok : sound r ≡ 
       (went (both (le-leb (r .size) longestPacket (small r ok)) (kind-whole r p s e ok big .0)) (omega arith)
       (rw (lt-ltb longestPacket n h) at head)))
 
-  begun-in : (m : ℕ) → m ≤ longestPacket → begun (readingOf r p) m ≡ inPacket (r .opened) m []
+  begun-in : (m : ℕ) → m ≤ longestPacket → recordBegun (readingOf r p) m ≡ inPacket (r .opened) m []
   begun-in zero h = refl
   begun-in (suc m) h = simp (le-ltb longestPacket (suc m) h, lt-ltb 0 (suc m) (omega arith), ne-eqb (suc m) 0 (λ z. omega arith))
 

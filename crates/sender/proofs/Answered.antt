@@ -16,7 +16,7 @@ use Rattle.base.specs.Checks.{checked}
 use Rattle.sender_spec.specs.State as State
 use Rattle.sender_spec.specs.State.{hasText}
 use Rattle.sender_spec.specs.Settings.{settingsNumber}
-use Rattle.sender_spec.specs.Answers.{Answered, refused, quiet, sent, ClockResult}
+use Rattle.sender_spec.specs.Answers.{ClockAnswer, refused, quiet, sent, ClockResult}
 use Rattle.sender_spec.specs.Packets.{carried, anyText, readyAt, packetBytes, afterPacket}
 use Rattle.sender_spec.specs.Calls.{clockOf, clockSent, clockQuiet, senderAt, clockRefused, spaceChecks}
 use Rattle.settings.specs.State.{settingsOf}
@@ -26,9 +26,9 @@ use Rattle.settings.specs.Judging as Judging
 use Rattle.settings.specs.Judging.{Judgement, refuses, judged, isEarly, isReady, judgementOf}
 use Rattle.slots.specs.Slots.{textsSize}
 use Rattle.writer.specs.Draft as Draft
-use Rattle.writer.specs.Draft.{answered, putOf}
+use Rattle.writer.specs.Draft.{clockAnswer, putOf}
 use Rattle.sender.specs.State.{stateOf}
-use Rattle.sender.specs.Clocking.{judgementAt, refusedBy, markerOf, draftOf, recordAt, recordBehind, Clocks}
+use Rattle.sender.specs.Clocking.{judgementAt, refusedBy, markerDue, draftOf, recordAt, recordBehind, Clocks}
 use Rattle.sender.proofs.Behind.{after-is}
 use Rattle.sender.proofs.Drafted.{packet-is}
 
@@ -74,14 +74,14 @@ ready-is s t Judgements.Early h e = absurd h
 ready-is s t Judgements.Ready h e = e
 
 -- M is 1 on the first packet
-pub first-marked : (s : Sender) → Holds (not (isSet (s .progress .sent))) → true ≡ markerOf s
+pub first-marked : (s : Sender) → Holds (not (isSet (s .progress .sent))) → true ≡ markerDue s
 first-marked s h = go (not (isSet (s .progress .sent))) _ h
   where
     go : (b c : Bool) → Holds b → true ≡ (b || c)
     go true c h = refl
     go false c h = absurd h
 
-abbrev senderFor : Answered → State.Sender → ℕ → State.Sender
+abbrev senderFor : ClockAnswer → State.Sender → ℕ → State.Sender
 senderFor (refused n) s t = s
 senderFor quiet s t = senderAt s t
 senderFor (sent n) s t = afterPacket s t
@@ -106,7 +106,7 @@ module _ (s : Sender) (texts : List ℕ) (t : ℕ) (p : List ℕ) where
   turned r = record { answer = r .answer; sender = senderFor (r .answer) state t; lent = r .lent }
 
   module _ (size : length texts ≡ textsSize) (ready : Judging.ready ≡ judgementOf (state .settings) (state .clock) (state .progress) t) where
-    turned-is : turned (putOf (draftOf s t (markerOf s)) texts p) ≡ clockOf state t p
+    turned-is : turned (putOf (draftOf s t (markerDue s)) texts p) ≡ clockOf state t p
     unfolding putOf
     turned-is =
         ap (λ (q : List ℕ). turned
@@ -126,10 +126,10 @@ module _ (s : Sender) (texts : List ℕ) (t : ℕ) (p : List ℕ) where
         go true false = refl
         go false c = refl
 
-    pub answered-is : (r : Answer) (p' : List ℕ) → record { answer = answered r; lent = p' } ≡ putOf (draftOf s t (markerOf s)) texts p → Clocks s texts t p r (recordBehind r s t) p'
+    pub answered-is : (r : Answer) (p' : List ℕ) → record { answer = clockAnswer r; lent = p' } ≡ putOf (draftOf s t (markerDue s)) texts p → Clocks s texts t p r (recordBehind r s t) p'
     answered-is r p' e = record { result = behind r ∙ ap turned e ∙ turned-is; fields = refl }
       where
-        behind : (r : Answer) → record { answer = answered r; sender = stateOf (recordBehind r s t) texts; lent = p' } ≡ turned (record { answer = answered r; lent = p' })
+        behind : (r : Answer) → record { answer = clockAnswer r; sender = stateOf (recordBehind r s t) texts; lent = p' } ≡ turned (record { answer = clockAnswer r; lent = p' })
         behind (Refused q) = refl
         behind Quiet = refl
         behind (Sent n) = ap (λ (x : State.Sender). record { answer = sent n; sender = x; lent = p' }) (after-is s texts t size)

@@ -18,7 +18,7 @@ use Rattle.text_spec.specs.Utf8.{isText}
 use Rattle.sender_spec.specs.Limits.{roomSize}
 use Rattle.sender_spec.specs.State as State
 use Rattle.sender_spec.specs.Settings.{settingsNumber}
-use Rattle.sender_spec.specs.Answers.{Numbered}
+use Rattle.sender_spec.specs.Answers.{CallResult}
 use Rattle.sender_spec.specs.Offering.{offerChecks, senderWith}
 use Rattle.sender_spec.specs.Calls.{offerOf, offerRefused}
 use Rattle.sender_spec.proofs.Calls.{offer-joined}
@@ -87,7 +87,7 @@ module _ (s : Sender) (texts : List ℕ) (t : ℕ) (x : List ℕ) (few : 1 + len
   unfolding offerOf
   first n e =
       let asked = senderWhere (s .settings) (s .clock) (state .waiting) in
-      sym (e ∙ number-first (λ (r : Numbered). r .number) (offerRefused asked) (offerChecks asked t x) (record { number = 0; sender = senderWith asked t x }) (λ n. refl) refl)
+      sym (e ∙ number-first (λ (r : CallResult). r .number) (offerRefused asked) (offerChecks asked t x) (record { number = 0; sender = senderWith asked t x }) (λ n. refl) refl)
 
   refused-is : (n : ℕ) → 1 ≤ n → numberBy (offerChecks state t x) ≡ n → offerOf state t x ≡ offerRefused state n
   unfolding offerOf

@@ -6,8 +6,8 @@ use native.Mathlib.Omega.{arith}
 use native.Mathlib.Numerals.{add-one}
 use lib.ListN.{length, take, length-take}
 use Rattle.packet_spec.specs.Limits.{level}
-use Rattle.sender_spec.specs.State.{Block}
-use Rattle.slots.specs.Slots.{slots, slotOf, textIn, waitingIn}
+use Rattle.sender_spec.specs.State.{SentBlock}
+use Rattle.slots.specs.Slots.{slots, slotOf, slotText, waitingIn}
 use Rattle.writer.specs.Draft.{blocksFrom, keptIn}
 use Rattle.slots.proofs.Slots.{onward, slot-on, slot-newest}
 use Rattle.writer.proofs.Kept.{take-least}
@@ -19,13 +19,13 @@ module _ (texts : List ℕ) (room : ℕ) where
   blocks-on back (n ∷ lens) (t ∷ ats) h =
       let e : slotOf (onward room) (suc back) ≡ slotOf room back = slot-on room back (omega arith) in
       let f = blocks-on (suc back) lens ats (omega arith) in
-      λ i. record { text = textIn texts (e i) n; at = t } ∷ f i
+      λ i. record { text = slotText texts (e i) n; at = t } ∷ f i
 
   blocks-take : (k back : ℕ) (lens ats : List ℕ) → blocksFrom texts room back (take k lens) (take k ats) ≡ take k (blocksFrom texts room back lens ats)
   blocks-take zero back lens ats = refl
   blocks-take (suc k) back [] ats = refl
   blocks-take (suc k) back (n ∷ lens) [] = refl
-  blocks-take (suc k) back (n ∷ lens) (t ∷ ats) = ap (λ (l : List Block). record { text = textIn texts (slotOf room back) n; at = t } ∷ l) (blocks-take k (suc back) lens ats)
+  blocks-take (suc k) back (n ∷ lens) (t ∷ ats) = ap (λ (l : List SentBlock). record { text = slotText texts (slotOf room back) n; at = t } ∷ l) (blocks-take k (suc back) lens ats)
 
 -- the circle: behind a packet what waited is block 0, and each block kept is one further back, in its slot; the oldest goes
 pub kept-on : (texts : List ℕ) (room len t count : ℕ) (lens ats : List ℕ)
@@ -41,5 +41,5 @@ kept-on texts room len t count lens ats =
     take-least (min count k) k old ∙ ap (λ (n : ℕ). take n old) same ∙ sym (take-least k count old) in
     let slot = slot-newest room in
     let suc-count : min count k + 1 ≡ suc (min count k) = add-one (min count k) in
-    (λ i. take (suc-count i) (record { text = textIn texts (slot i) len; at = t } ∷ moved i))
-    ∙ ap (λ (l : List Block). record { text = waitingIn texts room len; at = t } ∷ l) rest
+    (λ i. take (suc-count i) (record { text = slotText texts (slot i) len; at = t } ∷ moved i))
+    ∙ ap (λ (l : List SentBlock). record { text = waitingIn texts room len; at = t } ∷ l) rest

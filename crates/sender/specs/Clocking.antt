@@ -11,7 +11,7 @@ use Rattle.sender_spec.specs.Calls.{clockOf}
 use Rattle.writer.specs.declared.Draft.{Draft}
 use Rattle.writer.specs.declared.Answer.{Answer}
 use Rattle.writer.specs.declared.Answer.the-variants.{Refused, Quiet, Sent}
-use Rattle.writer.specs.Draft.{answered, answerBy}
+use Rattle.writer.specs.Draft.{clockAnswer, answerBy}
 use Rattle.slots.specs.Held.{emptiedOf, keptWith}
 use Rattle.settings.specs.State.{settingsOf, progressOf, progressBehind}
 use Rattle.settings.specs.declared.Judged.{Judged}
@@ -30,8 +30,8 @@ refusedBy Judgements.Early = Quiet
 refusedBy Judgements.Ready = Quiet
 
 -- M of the next packet
-abbrev pub markerOf : Sender → Bool
-markerOf s =
+abbrev pub markerDue : Sender → Bool
+markerDue s =
     not (isSet (s .progress .sent)) || (ltb 0 (s .waiting .len) && ltb (s .settings .buffering) (s .waiting .since - s .progress .«last_text»))
 
 -- what the packet at clock t is written from, with this M
@@ -79,9 +79,9 @@ recordBehind (Sent n) s t = recordAfter s t
 
 -- the sender that came and the one that is left are those of 01; and the fields are told besides
 pub record Clocks (s : Sender) (texts : List ℕ) (t : ℕ) (p : List ℕ) (r : Answer) (s' : Sender) (p' : List ℕ) : Type 0 where
-  pub result : record { answer = answered r; sender = stateOf s' texts; lent = p' } ≡ clockOf (stateOf s texts) t p
+  pub result : record { answer = clockAnswer r; sender = stateOf s' texts; lent = p' } ≡ clockOf (stateOf s texts) t p
   pub fields : s' ≡ recordBehind r s t
 
 -- what a call that is ready answers, by the packet's length n; m is M
 abbrev pub Sends : Sender → List ℕ → ℕ → List ℕ → Bool → ℕ → Sender → List ℕ → Type 0
-Sends s texts t p m n s' p' = ready ≡ judgementAt s t → m ≡ markerOf s → Clocks s texts t p (answerBy n (length p)) s' p'
+Sends s texts t p m n s' p' = ready ≡ judgementAt s t → m ≡ markerDue s → Clocks s texts t p (answerBy n (length p)) s' p'

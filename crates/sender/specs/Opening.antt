@@ -10,7 +10,7 @@ use Rattle.packet.specs.declared.Outcome.{Outcome}
 use Rattle.packet.specs.declared.Outcome.the-variants.{Accepted, Refused}
 use Rattle.packet.specs.Refusal.{outcomeNumber}
 use Rattle.packet_spec.specs.Limits.{level}
-use Rattle.sender_spec.specs.Calls.{openingOf}
+use Rattle.sender_spec.specs.Calls.{openSender}
 use Rattle.settings.specs.State.{settingsOf}
 use Rattle.sender.specs.State.{stateOf}
 
@@ -24,14 +24,14 @@ freshOf s = record {
   progress = record { sent = 0; last = 0; «last_text» = 0; next = s .sequence };
 }
 
-abbrev pub zeros : Sender
-zeros = freshOf (record { level = 0; buffering = 0; t140 = 0; red = 0; sequence = 0; timestamp = 0; source = 0 })
+abbrev pub zeroRecord : Sender
+zeroRecord = freshOf (record { level = 0; buffering = 0; t140 = 0; red = 0; sequence = 0; timestamp = 0; source = 0 })
 
 abbrev pub openedBy : Outcome → Settings → Sender
 openedBy Accepted s = freshOf s
-openedBy (Refused r) s = zeros
+openedBy (Refused r) s = zeroRecord
 
 -- whatever texts are lent, the sender is that of 01; and the fields are told besides
 pub record Opens (s : Settings) (r : Opened) : Type 0 where
-  pub result : (texts : List ℕ) → record { number = outcomeNumber (r .outcome); sender = stateOf (r .sender) texts } ≡ openingOf (settingsOf s)
+  pub result : (texts : List ℕ) → record { number = outcomeNumber (r .outcome); sender = stateOf (r .sender) texts } ≡ openSender (settingsOf s)
   pub fields : r .sender ≡ openedBy (r .outcome) s

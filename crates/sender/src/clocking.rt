@@ -5,7 +5,7 @@ ghost use lib.ListN.{length};
 ghost use Rattle.base.specs.Flags.{isSet};
 ghost use Rattle.settings.specs.Judging.{judged};
 ghost use Rattle.writer.specs.Draft.{answerBy};
-ghost use Rattle.sender.specs.Clocking.{judgementAt, refusedBy, markerOf, draftOf, recordAt, recordAfter, recordBehind, Sends};
+ghost use Rattle.sender.specs.Clocking.{judgementAt, refusedBy, markerDue, draftOf, recordAt, recordAfter, recordBehind, Sends};
 use crate::Sender;
 use settings::Judged;
 use writer::Answer;
@@ -69,7 +69,7 @@ pub fn is_first(sender: Sender) -> bool
 
 // M of the next packet.
 pub fn marker(sender: Sender) -> bool
-    ensures { λ r. ⌜ r ≡ markerOf sender ⌝ }
+    ensures { λ r. ⌜ r ≡ markerDue sender ⌝ }
 {
     let settings = sender.settings;
     let progress = sender.progress;

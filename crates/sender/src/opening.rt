@@ -37,7 +37,7 @@ pub fn fresh(settings: Settings) -> Sender
 }
 
 pub fn zeros() -> Sender
-    ensures { λ r. ⌜ r ≡ Opening.zeros ⌝ }
+    ensures { λ r. ⌜ r ≡ Opening.zeroRecord ⌝ }
 {
     let settings = Settings {
         level: 0,

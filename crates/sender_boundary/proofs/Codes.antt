@@ -11,16 +11,16 @@ use mir.Syntax.{w64}
 use mir.Val.{toZ, SFits}
 use mir.Facts.{toZ-pos}
 use Rattle.sender_spec.specs.State as State
-use Rattle.sender_spec.specs.Answers.{Answered, refused, quiet, sent, ClockResult}
+use Rattle.sender_spec.specs.Answers.{ClockAnswer, refused, quiet, sent, ClockResult}
 use Rattle.sender_spec.specs.Calls.{clockOf}
 use Rattle.sender_spec.proofs.Shapes as Shapes
 use Rattle.sender_spec.proofs.Shapes.{Clock, clock-shape}
 use Rattle.sender.specs.declared.Sender.{Sender}
 use Rattle.writer.specs.declared.Answer.{Answer}
 use Rattle.sender.specs.State.{stateOf}
-use Rattle.writer.specs.Draft.{answered}
+use Rattle.writer.specs.Draft.{clockAnswer}
 use Rattle.sender.specs.Clocking.{Clocks}
-use Rattle.sender_boundary.specs.Calls.{clockCode, signed, codeOf}
+use Rattle.sender_boundary.specs.Calls.{clockCode, signedCode, codeOf}
 
 module _ (n : ℕ) (h : n < 256) where
   pub negated : pos 0 -ℤ toZ w64 n ≡ negℤ (pos n)
@@ -33,7 +33,7 @@ module _ (n : ℕ) (h : n < 256) where
       small zero l = omega arith
       small (suc m) l = omega arith
 
-pub signed-small : (n : ℕ) → n < 2 ^ 63 → signed n ≡ pos n
+pub signed-small : (n : ℕ) → n < 2 ^ 63 → signedCode n ≡ pos n
 signed-small n h = rw (lt-ltb n (2 ^ 63) h)
 
 -- a packet that is sent has no more bytes than the space, which a signed number counts
@@ -46,6 +46,6 @@ sent-fits s t p h = go (clockOf s t p) (clock-shape s t p)
     go r (Shapes.sent k l e m) = signed-small _ (omega arith)
 
 pub code-exact : (s : Sender) (texts : List ℕ) (t : ℕ) (p : List ℕ) (r : Answer) (s' : Sender) (p' : List ℕ) → Clocks s texts t p r s' p' → length p * 1 < 2 ^ 63
-    → codeOf (answered r) ≡ clockCode (answered r)
+    → codeOf (clockAnswer r) ≡ clockCode (clockAnswer r)
 code-exact s texts t p r s' p' c h =
-    subst (λ (x : Answered). codeOf x ≡ clockCode x) (sym (ap (λ (x : ClockResult). x .answer) (c .result))) (sent-fits (stateOf s texts) t p h)
+    subst (λ (x : ClockAnswer). codeOf x ≡ clockCode x) (sym (ap (λ (x : ClockResult). x .answer) (c .result))) (sent-fits (stateOf s texts) t p h)

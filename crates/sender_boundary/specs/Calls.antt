@@ -8,18 +8,18 @@ use lib.IntN.{ℤ, pos, negℤ}
 use lib.ListN.{replicate}
 use Rattle.packet.specs.declared.Outcome.{Outcome}
 use Rattle.packet.specs.Refusal.{outcomeNumber}
-use Rattle.sender_spec.specs.Answers.{Answered, refused, quiet, sent}
+use Rattle.sender_spec.specs.Answers.{ClockAnswer, refused, quiet, sent}
 use Rattle.slots.specs.Slots.{textsSize}
 use Rattle.settings.specs.declared.Settings.{Settings}
 use Rattle.sender.specs.declared.Sender.{Sender}
 use Rattle.writer.specs.declared.Answer.{Answer}
 use Rattle.sender.specs.Opening.{Opens}
 use Rattle.sender.specs.Offering.{Offers}
-use Rattle.writer.specs.Draft.{answered}
+use Rattle.writer.specs.Draft.{clockAnswer}
 use Rattle.sender.specs.Clocking.{Clocks}
 
-abbrev pub settingsOf : ℕ → ℕ → ℕ → ℕ → ℕ → ℕ → ℕ → Settings
-settingsOf level buffering t140 red sequence timestamp source = record {
+abbrev pub settingsFrom : ℕ → ℕ → ℕ → ℕ → ℕ → ℕ → ℕ → Settings
+settingsFrom level buffering t140 red sequence timestamp source = record {
   level = level;
   buffering = buffering;
   t140 = t140;
@@ -30,36 +30,36 @@ settingsOf level buffering t140 red sequence timestamp source = record {
 }
 
 -- the length of the packet sent, 0 where the call is quiet, minus the number of the refusal
-abbrev pub clockCode : Answered → ℤ
+abbrev pub clockCode : ClockAnswer → ℤ
 clockCode (refused n) = negℤ (pos n)
 clockCode quiet = pos 0
 clockCode (sent n) = pos n
 
 -- a length that a signed number of 64 bits counts, 0 for any other, which no packet has
-abbrev pub signed : ℕ → ℤ
-signed n = cond (ltb n (2 ^ 63)) (pos n) (pos 0)
+abbrev pub signedCode : ℕ → ℤ
+signedCode n = cond (ltb n (2 ^ 63)) (pos n) (pos 0)
 
 -- the same as clockCode, of every answer that the clock call gives
-abbrev pub codeOf : Answered → ℤ
+abbrev pub codeOf : ClockAnswer → ℤ
 codeOf (refused n) = negℤ (pos n)
 codeOf quiet = pos 0
-codeOf (sent n) = signed n
+codeOf (sent n) = signedCode n
 
 -- the number r, the sender and the texts that an opening leaves
-pub record Opening (x : Settings) (r : ℕ) (s' : Sender) (texts' : List ℕ) : Type 0 where
+pub record OpensIn (x : Settings) (r : ℕ) (s' : Sender) (texts' : List ℕ) : Type 0 where
   pub outcome : Outcome
   pub number : r ≡ outcomeNumber outcome
   pub opens : Opens x (record { outcome = outcome; sender = s' })
   pub cleared : texts' ≡ replicate textsSize 0
 
 -- the number r of an offer; the number names the refusal
-pub record Offering (s : Sender) (texts : List ℕ) (t : ℕ) (x : List ℕ) (r : ℕ) (s' : Sender) (texts' : List ℕ) : Type 0 where
+pub record OffersIn (s : Sender) (texts : List ℕ) (t : ℕ) (x : List ℕ) (r : ℕ) (s' : Sender) (texts' : List ℕ) : Type 0 where
   pub outcome : Outcome
   pub number : r ≡ outcomeNumber outcome
   pub offers : Offers s texts t x outcome s' texts'
 
 -- the code r of a clock call
-pub record Clocking (s : Sender) (texts : List ℕ) (t : ℕ) (p : List ℕ) (r : ℤ) (s' : Sender) (p' : List ℕ) : Type 0 where
+pub record ClocksIn (s : Sender) (texts : List ℕ) (t : ℕ) (p : List ℕ) (r : ℤ) (s' : Sender) (p' : List ℕ) : Type 0 where
   pub answer : Answer
-  pub code : r ≡ clockCode (answered answer)
+  pub code : r ≡ clockCode (clockAnswer answer)
   pub clocks : Clocks s texts t p answer s' p'

@@ -4,8 +4,8 @@ ghost use lib.IntN.{pos, negℤ};
 ghost use lib.ListN.{replicate};
 ghost use Rattle.slots.specs.Slots.{textsSize};
 ghost use Rattle.sender.specs.Opening.{Opens};
-ghost use Rattle.writer.specs.Draft.{answered};
-ghost use Rattle.sender_boundary.specs.Calls.{settingsOf, signed, codeOf};
+ghost use Rattle.writer.specs.Draft.{clockAnswer};
+ghost use Rattle.sender_boundary.specs.Calls.{settingsFrom, signedCode, codeOf};
 use sender::Opened;
 use sender::Sender;
 use settings::Settings;
@@ -25,7 +25,7 @@ pub fn open(
     timestamp: u32,
     source: u32,
 ) -> Opened
-    ensures { λ r. ⌜ Opens (settingsOf level buffering t140 red sequence timestamp source) r × (now (texts .exit) ≡ replicate textsSize 0) ⌝ }
+    ensures { λ r. ⌜ Opens (settingsFrom level buffering t140 red sequence timestamp source) r × (now (texts .exit) ≡ replicate textsSize 0) ⌝ }
 {
     *texts = [0u8; Sender::TEXTS];
     let settings = Settings {
@@ -47,7 +47,7 @@ fn minus(number: u8) -> i64
 }
 
 fn signed_of(len: usize) -> i64
-    ensures { λ r. ⌜ r ≡ signed len ⌝ }
+    ensures { λ r. ⌜ r ≡ signedCode len ⌝ }
 {
     if len < SIGNED {
         return len as i64;
@@ -57,7 +57,7 @@ fn signed_of(len: usize) -> i64
 
 // The clock call's answer as one number.
 pub fn code_of(answer: Answer) -> i64
-    ensures { λ r. ⌜ r ≡ codeOf (answered answer) ⌝ }
+    ensures { λ r. ⌜ r ≡ codeOf (clockAnswer answer) ⌝ }
 {
     match answer {
         Answer::Refused(refusal) => {

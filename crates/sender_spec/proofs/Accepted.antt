@@ -6,20 +6,20 @@ use native.Mathlib.Omega.{arith}
 use lib.Dec.{ltb, eqb}
 use borrow.Author.Tests.{ltb-false, eqb-true, eqb-false}
 use Rattle.base.specs.Checks.{checked}
-use Rattle.sender_spec.specs.State.{Settings, Sender, fresh}
+use Rattle.sender_spec.specs.State.{Settings, Sender, freshSender}
 use Rattle.sender_spec.specs.Settings.{settingsNumber}
-use Rattle.sender_spec.specs.Answers.{Numbered}
-use Rattle.sender_spec.specs.Calls.{openingOf, openingRefused}
+use Rattle.sender_spec.specs.Answers.{CallResult}
+use Rattle.sender_spec.specs.Calls.{openSender, senderRefused}
 use Rattle.sender_spec.specs.Clocking.{clockChecks}
 
-pub open-passed : (x : Settings) → openingOf x .number ≡ 0 → (settingsNumber x ≡ 0) × (openingOf x .sender ≡ fresh x)
-unfolding openingOf
+pub open-passed : (x : Settings) → openSender x .number ≡ 0 → (settingsNumber x ≡ 0) × (openSender x .sender ≡ freshSender x)
+unfolding openSender
 open-passed x = go (settingsNumber x) (eqb (settingsNumber x) 0) refl
   where
-    by : ℕ → Bool → Numbered
-    by n b = cond (not b) (openingRefused n) (record { number = 0; sender = fresh x })
+    by : ℕ → Bool → CallResult
+    by n b = cond (not b) (senderRefused n) (record { number = 0; sender = freshSender x })
 
-    go : (n : ℕ) (b : Bool) → eqb n 0 ≡ b → by n b .number ≡ 0 → (n ≡ 0) × (by n b .sender ≡ fresh x)
+    go : (n : ℕ) (b : Bool) → eqb n 0 ≡ b → by n b .number ≡ 0 → (n ≡ 0) × (by n b .sender ≡ freshSender x)
     go n true q e = (eqb-true n 0 q, refl)
     go n false q e = absurd (eqb-false n 0 q e)
 

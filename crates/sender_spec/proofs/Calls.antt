@@ -11,9 +11,9 @@ use Rattle.packet_spec.specs.Header.{typesBad}
 use Rattle.text_spec.specs.Utf8.{isText}
 use Rattle.sender_spec.specs.Limits.{roomSize}
 use Rattle.sender_spec.specs.Settings.{bufferingBad, settingsNumber}
-use Rattle.sender_spec.specs.State.{Settings, Sender, fresh}
+use Rattle.sender_spec.specs.State.{Settings, Sender, freshSender}
 use Rattle.sender_spec.specs.Answers.{ClockResult}
-use Rattle.sender_spec.specs.Calls.{openingOf, openingRefused, offerOf, offerRefused, clockOf, clockSent, clockQuiet, clockRefused}
+use Rattle.sender_spec.specs.Calls.{openSender, senderRefused, offerOf, offerRefused, clockOf, clockSent, clockQuiet, clockRefused}
 use Rattle.sender_spec.specs.Offering.{senderWith}
 use Rattle.sender_spec.specs.Packets.{due, packetBytes}
 
@@ -39,12 +39,12 @@ module _ (s : Settings) where
 
 -- an opening
 module _ (s : Settings) (n : ℕ) (e : n ≡ settingsNumber s) where
-  pub open-accepted : n ≡ 0 → openingOf s ≡ record { number = n; sender = fresh s }
-  unfolding openingOf
+  pub open-accepted : n ≡ 0 → openSender s ≡ record { number = n; sender = freshSender s }
+  unfolding openSender
   open-accepted z = rw (← e, z)
 
-  pub open-refused : 1 ≤ n → openingOf s ≡ openingRefused n
-  unfolding openingOf
+  pub open-refused : 1 ≤ n → openSender s ≡ senderRefused n
+  unfolding openSender
   open-refused h = rw (← e, ne-eqb n 0 (λ z. omega arith))
 
 -- an offer

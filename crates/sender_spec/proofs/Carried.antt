@@ -9,7 +9,7 @@ use lib.ListN.{length, take, length-take, length-map, length-reverse}
 use borrow.Author.Tests.{leb-true}
 use Rattle.packet_spec.specs.Redundancy
 use Rattle.delivery.specs.Run.{oldestAge}
-use Rattle.sender_spec.specs.State.{Block, Sender}
+use Rattle.sender_spec.specs.State.{SentBlock, Sender}
 use Rattle.sender_spec.specs.Packets.{recent, recentRun, carried, repeated, contentOf}
 use Rattle.base.proofs.Tests.{by-test}
 use Rattle.base.specs.Every.{Every}
@@ -20,7 +20,7 @@ use Rattle.sender_spec.proofs.Good.{Sendable, AllSendable, Good}
 abbrev pub Repeatable : Redundancy.Block → Type 0
 Repeatable b = Sendable (b .bytes) × (b .offset ≤ oldestAge)
 
-pub recent-true : (t : ℕ) (b : Block) → recent t b ≡ true → (b .at ≤ t) × (t - b .at ≤ oldestAge)
+pub recent-true : (t : ℕ) (b : SentBlock) → recent t b ≡ true → (b .at ≤ t) × (t - b .at ≤ oldestAge)
 recent-true t b e = go (leb (b .at) t) refl e
   where
     go : (a : Bool) → leb (b .at) t ≡ a → (a && leb (t - b .at) oldestAge) ≡ true → (b .at ≤ t) × (t - b .at ≤ oldestAge)
@@ -28,16 +28,16 @@ recent-true t b e = go (leb (b .at) t) refl e
     go false p e = absurd (let z : _≡_ {A = ℕ} 0 1 = cc in omega arith)
 
 module _ (t : ℕ) where
-  abbrev Carriable : Block → Type 0
+  abbrev Carriable : SentBlock → Type 0
   Carriable b = Repeatable (repeated t b)
 
-  run-good : (bs : List Block) → AllSendable bs → Every Carriable (recentRun t bs)
+  run-good : (bs : List SentBlock) → AllSendable bs → Every Carriable (recentRun t bs)
   run-good [] e = tt
   run-good (b ∷ bs) e = by-test (Every Carriable) (recent t b) (λ r. ((e .0, recent-true t b r .1), run-good bs (e .1))) (λ r. tt)
 
-  pub run-few : (bs : List Block) → length (recentRun t bs) ≤ length bs
+  pub run-few : (bs : List SentBlock) → length (recentRun t bs) ≤ length bs
   run-few [] = omega arith
-  run-few (b ∷ bs) = by-test (λ (l : List Block). length l ≤ suc (length bs)) (recent t b) (λ r. let h = run-few bs in omega arith) (λ r. omega arith)
+  run-few (b ∷ bs) = by-test (λ (l : List SentBlock). length l ≤ suc (length bs)) (recent t b) (λ r. let h = run-few bs in omega arith) (λ r. omega arith)
 
 module _ (s : Sender) (t : ℕ) where
   pub carried-few : length (carried s t) ≤ s .settings .level
@@ -49,6 +49,6 @@ module _ (s : Sender) (t : ℕ) where
   pub older-good : Good s → Every Repeatable (contentOf s t .older)
   older-good g =
       let n = s .settings .level in
-      let k : AllSendable (take n (s .kept)) = every-take (λ (b : Block). Sendable (b .text)) n (s .kept) (g .kept) in
+      let k : AllSendable (take n (s .kept)) = every-take (λ (b : SentBlock). Sendable (b .text)) n (s .kept) (g .kept) in
       let r : Every (Carriable t) (carried s t) = run-good t (take n (s .kept)) k in
       every-map (Carriable t) Repeatable (repeated t) (λ b h. h) (reverse (carried s t)) (every-reverse (Carriable t) (carried s t) r)

@@ -6,20 +6,20 @@ use lib.ListN.{replicate}
 use Rattle.packet_spec.specs.Redundancy.{headers}
 use Rattle.packet_spec.specs.Reading.{reading}
 use Rattle.sender_spec.specs.Settings.{settingsNumber}
-use Rattle.sender_spec.specs.State.{Settings, Sender, fresh, zeroSettings, zeroSender}
-use Rattle.sender_spec.specs.Answers.{Numbered}
-use Rattle.sender_spec.specs.Calls.{openingOf, offerOf, clockOf}
+use Rattle.sender_spec.specs.State.{Settings, Sender, freshSender, zeroSettings, zeroSender}
+use Rattle.sender_spec.specs.Answers.{CallResult}
+use Rattle.sender_spec.specs.Calls.{openSender, offerOf, clockOf}
 use Rattle.sender_spec.proofs.Tables.{typed, offer, clockIn, clock, accepted, quiet, refused, sent, _answers_, after, Case, from, CasesHold, opened, A, B, letters, notText, M, no-M, ago, holding, before-end}
 
 -- Openings: settings, and what is answered.
 
 pub record Opening : Type 0 where
   pub settings : Settings
-  pub answer : Numbered
+  pub answer : CallResult
 
 infixl 68 _opens _meets_
 abbrev pub _opens : Settings → Opening
-s opens = record { settings = s; answer = record { number = 0; sender = fresh s } }
+s opens = record { settings = s; answer = record { number = 0; sender = freshSender s } }
 
 abbrev pub _meets_ : Settings → ℕ → Opening
 s meets n = record { settings = s; answer = record { number = n; sender = zeroSender } }
@@ -42,10 +42,10 @@ openings =
 
 abbrev pub OpeningsHold : List Opening → Type 0
 OpeningsHold [] = Unit {0}
-OpeningsHold (o ∷ os) = (openingOf (o .settings) ≡ o .answer) × OpeningsHold os
+OpeningsHold (o ∷ os) = (openSender (o .settings) ≡ o .answer) × OpeningsHold os
 
 pub opening-tests : OpeningsHold openings
-unfolding openings openingOf settingsNumber
+unfolding openings openSender settingsNumber
 opening-tests = (refl, (refl, (refl, (refl, (refl, (refl, (refl, (refl, (refl, (refl, (refl, tt)))))))))))
 
 -- offering: 5, 7, 6, 4, in order; the waiting room holds 160 bytes
@@ -172,7 +172,7 @@ zeros =
     )
 
 pub case-tests : CasesHold (offering ∷ clocking ∷ marker-300 ∷ marker-301 ∷ marker-text ∷ empty-blocks ∷ old-block ∷ no-overflow ∷ zeros ∷ [])
-unfolding offering clocking marker-300 marker-301 marker-text empty-blocks old-block no-overflow zeros openingOf offerOf clockOf settingsNumber reading headers
+unfolding offering clocking marker-300 marker-301 marker-text empty-blocks old-block no-overflow zeros openSender offerOf clockOf settingsNumber reading headers
 case-tests = (refl, (refl, (refl, (refl, (refl, (refl, (refl, (refl, (refl, tt)))))))))
 
 -- Lent bytes: a sender, the clock of a call, and the bytes before and after it.
@@ -211,5 +211,5 @@ writings =
     ∷ []
 
 pub writing-tests : WritingsHold writings
-unfolding writings openingOf offerOf clockOf settingsNumber
+unfolding writings openSender offerOf clockOf settingsNumber
 writing-tests = (refl, (refl, (refl, (refl, (refl, (refl, tt))))))

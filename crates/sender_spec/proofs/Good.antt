@@ -8,8 +8,8 @@ use lib.ListN.{length, length-append}
 use Rattle.packet_spec.specs.Limits.{level}
 use Rattle.text_spec.specs.Utf8.{isText}
 use Rattle.sender_spec.specs.Limits.{roomSize}
-use Rattle.sender_spec.specs.State.{Settings, Block, Sender, fresh}
-use Rattle.sender_spec.specs.Answers.{Numbered, ClockResult}
+use Rattle.sender_spec.specs.State.{Settings, SentBlock, Sender, freshSender}
+use Rattle.sender_spec.specs.Answers.{CallResult, ClockResult}
 use Rattle.sender_spec.specs.Calls.{offerOf, clockOf}
 use Rattle.sender_spec.specs.Packets.{taken, left, afterPacket}
 use Rattle.text_spec.proofs.TextJoin.{text-join}
@@ -22,8 +22,8 @@ use Rattle.sender_spec.proofs.Shapes
 abbrev pub Sendable : List ℕ → Type 0
 Sendable x = (isText x ≡ true) × (length x ≤ roomSize)
 
-abbrev pub AllSendable : List Block → Type 0
-AllSendable bs = Every (λ (b : Block). Sendable (b .text)) bs
+abbrev pub AllSendable : List SentBlock → Type 0
+AllSendable bs = Every (λ (b : SentBlock). Sendable (b .text)) bs
 
 pub record Good (s : Sender) : Type 0 where
   pub waiting : Sendable (s .waiting)
@@ -32,7 +32,7 @@ pub record Good (s : Sender) : Type 0 where
 nothing-sendable : Sendable []
 nothing-sendable = (refl, omega arith)
 
-pub fresh-good : (x : Settings) → Good (fresh x)
+pub fresh-good : (x : Settings) → Good (freshSender x)
 fresh-good x = record { waiting = nothing-sendable; kept = tt }
 
 joined-sendable : (x y : List ℕ) → Sendable x → isText y ≡ true → length x + length y ≤ roomSize → Sendable (x ++ y)
@@ -41,7 +41,7 @@ joined-sendable x y h e k = (text-join x y (h .0) e, omega (arith, length-append
 pub offer-good : (s : Sender) (t : ℕ) (x : List ℕ) → Good s → Good (offerOf s t x .sender)
 offer-good s t x g = go (offerOf s t x) (offer-shape s t x)
   where
-    go : (r : Numbered) → Offer s t x r → Good (r .sender)
+    go : (r : CallResult) → Offer s t x r → Good (r .sender)
     go r (Shapes.refused n h) = g
     go r (joined ok later text room) = record { waiting = joined-sendable (s .waiting) x (g .waiting) text room; kept = g .kept }
 
@@ -55,7 +55,7 @@ left-good s t g = nothing-sendable
 after-good : (s : Sender) (t : ℕ) → Good s → Good (afterPacket s t)
 after-good s t g = record {
   waiting = left-good s t g;
-  kept = every-take (λ (b : Block). Sendable (b .text)) level (record { text = taken s t; at = t } ∷ s .kept) (taken-good s t g, g .kept);
+  kept = every-take (λ (b : SentBlock). Sendable (b .text)) level (record { text = taken s t; at = t } ∷ s .kept) (taken-good s t g, g .kept);
 }
 
 pub clock-good : (s : Sender) (t : ℕ) (p : List ℕ) → Good s → Good (clockOf s t p .sender)

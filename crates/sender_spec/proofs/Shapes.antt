@@ -12,12 +12,12 @@ use Rattle.sender_spec.specs.Limits.{roomSize}
 use Rattle.sender_spec.specs.Settings.{settingsNumber}
 use Rattle.sender_spec.specs.State.{Sender}
 use Rattle.sender_spec.specs.Answers
-use Rattle.sender_spec.specs.Answers.{Numbered, ClockResult}
+use Rattle.sender_spec.specs.Answers.{CallResult, ClockResult}
 use Rattle.sender_spec.specs.Offering.{senderWith}
 use Rattle.sender_spec.specs.Calls.{offerOf, offerRefused, clockOf, clockSent, clockQuiet, senderAt, clockRefused}
 use Rattle.sender_spec.specs.Packets.{due, packetBytes, afterPacket}
 
-pub data Offer (s : Sender) (t : ℕ) (x : List ℕ) : Numbered → Type 0 where
+pub data Offer (s : Sender) (t : ℕ) (x : List ℕ) : CallResult → Type 0 where
   refused : (n : ℕ) → 1 ≤ n → Offer s t x (offerRefused s n)
   joined : settingsNumber (s .settings) ≡ 0 → s .clock ≤ t → isText x ≡ true → length (s .waiting) + length x ≤ roomSize
       → Offer s t x (record { number = 0; sender = senderWith s t x })

@@ -11,8 +11,8 @@ use Rattle.packet_spec.specs.Redundancy.{Block}
 use Rattle.packet_spec.specs.Reading.{Read, holds, reading}
 use Rattle.sender_spec.specs.State.{Settings, Sender}
 use Rattle.sender_spec.specs.Answers
-use Rattle.sender_spec.specs.Answers.{Answered, ClockResult}
-use Rattle.sender_spec.specs.Calls.{openingOf, offerOf, clockOf}
+use Rattle.sender_spec.specs.Answers.{ClockAnswer, ClockResult}
+use Rattle.sender_spec.specs.Calls.{openSender, offerOf, clockOf}
 
 -- level, buffering time, T140 and RED
 abbrev pub typed : ℕ → ℕ → ℕ → ℕ → Settings
@@ -47,7 +47,7 @@ abbrev pub toldNumber : ℕ → Told
 toldNumber zero = accepted
 toldNumber (suc n) = refused (suc n)
 
-abbrev pub toldPacket : Answered → List ℕ → Told
+abbrev pub toldPacket : ClockAnswer → List ℕ → Told
 toldPacket (Answers.refused n) p = refused n
 toldPacket Answers.quiet p = quiet
 toldPacket (Answers.sent n) p = sent n (reading level Any 98 100 (take n p))
@@ -80,7 +80,7 @@ CasesHold (c ∷ cs) = (answersFrom (c .start) (c .rows) ≡ map (λ r. r .answe
 
 -- level and buffering time; the first sequence number is 65,535, the first timestamp 1000
 abbrev pub opened : ℕ → ℕ → Sender
-opened r b = openingOf (typed r b 98 100) .sender
+opened r b = openSender (typed r b 98 100) .sender
 
 abbrev pub A : List ℕ
 A = 0x41 ∷ []

@@ -6,25 +6,25 @@ use lib.Dec.{ltb}
 use lib.ListN.{length}
 use Rattle.base.specs.Arrays.{over}
 use Rattle.base.specs.Checks.{Check, _gives_, checked}
-use Rattle.sender_spec.specs.State.{Settings, Sender, fresh, zeroSender}
+use Rattle.sender_spec.specs.State.{Settings, Sender, freshSender, zeroSender}
 use Rattle.sender_spec.specs.Settings.{settingsCheck}
-use Rattle.sender_spec.specs.Answers.{Numbered, refused, quiet, sent, ClockResult}
+use Rattle.sender_spec.specs.Answers.{CallResult, refused, quiet, sent, ClockResult}
 use Rattle.sender_spec.specs.Offering.{offerChecks, senderWith}
 use Rattle.sender_spec.specs.Packets.{due, packetBytes, afterPacket}
 use Rattle.sender_spec.specs.Clocking.{clockChecks}
 
 -- "A refused opening gives its number and, where a value must stand beside it, a sender .. of all zeros"
-abbrev pub openingRefused : ℕ → Numbered
-openingRefused n = record { number = n; sender = zeroSender }
+abbrev pub senderRefused : ℕ → CallResult
+senderRefused n = record { number = n; sender = zeroSender }
 
-unfoldable pub openingOf : Settings → Numbered
-openingOf s = checked openingRefused (settingsCheck s ∷ []) (record { number = 0; sender = fresh s })
+unfoldable pub openSender : Settings → CallResult
+openSender s = checked senderRefused (settingsCheck s ∷ []) (record { number = 0; sender = freshSender s })
 
 -- "Any other refusal gives its number, the state as it came in"
-abbrev pub offerRefused : Sender → ℕ → Numbered
+abbrev pub offerRefused : Sender → ℕ → CallResult
 offerRefused s n = record { number = n; sender = s }
 
-unfoldable pub offerOf : Sender → ℕ → List ℕ → Numbered
+unfoldable pub offerOf : Sender → ℕ → List ℕ → CallResult
 offerOf s t x = checked (offerRefused s) (offerChecks s t x) (record { number = 0; sender = senderWith s t x })
 
 -- "lent packet space shorter than the packet due"

@@ -11,19 +11,19 @@ use Rattle.packet_spec.specs.Reading.{Content}
 use Rattle.packet_spec.specs.Encoding.{plainBytes, redundantBytes}
 use Rattle.delivery.specs.Numbers.{next}
 use Rattle.delivery.specs.Run.{oldestAge}
-use Rattle.sender_spec.specs.State.{Block, Progress, Sender, hasText}
+use Rattle.sender_spec.specs.State.{SentBlock, Progress, Sender, hasText}
 
 -- "sent at most 16,383 ms before t"
-abbrev pub recent : ℕ → Block → Bool
+abbrev pub recent : ℕ → SentBlock → Bool
 recent t b = leb (b .at) t && leb (t - b .at) oldestAge
 
 -- the longest run from the front
-abbrev pub recentRun : ℕ → List Block → List Block
+abbrev pub recentRun : ℕ → List SentBlock → List SentBlock
 recentRun t [] = []
 recentRun t (b ∷ bs) = cond (recent t b) (b ∷ recentRun t bs) []
 
 -- "At clock t a packet would carry as older blocks the longest run of the most recent blocks, at most R"; newest first
-abbrev pub carried : Sender → ℕ → List Block
+abbrev pub carried : Sender → ℕ → List SentBlock
 carried s t = recentRun t (take (s .settings .level) (s .kept))
 
 -- "A due packet takes the whole waiting room as primary (empty if there is none)"
@@ -34,7 +34,7 @@ taken s t = s .waiting
 abbrev pub left : Sender → ℕ → List ℕ
 left s t = []
 
-abbrev pub anyText : List Block → Bool
+abbrev pub anyText : List SentBlock → Bool
 anyText [] = false
 anyText (b ∷ bs) = hasText (b .text) || anyText bs
 
@@ -52,7 +52,7 @@ abbrev pub marker : Sender → ℕ → Bool
 marker s t = not (s .progress .sent) || (hasText (taken s t) && ltb (s .settings .buffering) (s .since - s .progress .lastText))
 
 -- a block that is repeated at t
-abbrev pub repeated : ℕ → Block → Redundancy.Block
+abbrev pub repeated : ℕ → SentBlock → Redundancy.Block
 repeated t b = record { offset = t - b .at; bytes = b .text }
 
 -- "timestamp is first timestamp plus t, wrapped at 2^32"
@@ -73,7 +73,7 @@ packetBytes s t =
     (redundantBytes (s .settings .t140) (s .settings .red) (contentOf s t))
 
 -- the blocks that are kept behind the packet: its own, empty or not ("Empty blocks count as blocks"), and the last before it
-abbrev pub keptAfter : Sender → ℕ → List Block
+abbrev pub keptAfter : Sender → ℕ → List SentBlock
 keptAfter s t = take level (record { text = taken s t; at = t } ∷ s .kept)
 
 -- "sequence grows by 1, wrapped"

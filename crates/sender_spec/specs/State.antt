@@ -18,7 +18,7 @@ pub record Settings : Type 0 where
   pub source : ℕ
 
 -- a block that was sent, and when
-pub record Block : Type 0 where
+pub record SentBlock : Type 0 where
   pub text : List ℕ
   pub at : ℕ
 
@@ -35,15 +35,15 @@ pub record Sender : Type 0 where
   pub clock : ℕ
   pub waiting : List ℕ
   pub since : ℕ
-  pub kept : List Block
+  pub kept : List SentBlock
   pub progress : Progress
 
 abbrev pub hasText : List ℕ → Bool
 hasText x = ltb 0 (length x)
 
 -- nothing offered and nothing sent: "Clock values are 64-bit ms from the opening"
-abbrev pub fresh : Settings → Sender
-fresh s = record {
+abbrev pub freshSender : Settings → Sender
+freshSender s = record {
   settings = s;
   clock = 0;
   waiting = [];
@@ -57,4 +57,4 @@ zeroSettings = record { level = 0; buffering = 0; t140 = 0; red = 0; sequence = 
 
 -- "a sender .. of all zeros"
 abbrev pub zeroSender : Sender
-zeroSender = fresh zeroSettings
+zeroSender = freshSender zeroSettings

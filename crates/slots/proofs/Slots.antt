@@ -10,7 +10,7 @@ use Rattle.base.proofs.Tests.{by-test}
 use Rattle.packet_spec.specs.Limits.{level}
 use Rattle.sender_spec.specs.Limits.{roomSize}
 use Rattle.sender_spec.specs.State.{hasText}
-use Rattle.slots.specs.Slots.{slots, textsSize, roomOf, slotOf, textIn, waitingIn}
+use Rattle.slots.specs.Slots.{slots, textsSize, roomOf, slotOf, slotText, waitingIn}
 
 pub room-slot : (room : ℕ) → roomOf room < slots
 room-slot room = by-test (λ (k : ℕ). k < slots) (ltb room slots) (λ e. ltb-true room slots e) (λ e. omega arith)
@@ -24,7 +24,7 @@ slot-now room = omega (arith, room-slot room)
 
 -- a slot lies within the texts
 module _ (texts : List ℕ) (whole : length texts ≡ textsSize) where
-  pub text-length : (slot len : ℕ) → slot < slots → length (textIn texts slot len) ≡ min len roomSize
+  pub text-length : (slot len : ℕ) → slot < slots → length (slotText texts slot len) ≡ min len roomSize
   text-length slot len h = simp (length-take, length-drop) (omega arith)
 
   pub waiting-length : (room len : ℕ) → length (waitingIn texts room len) ≡ min len roomSize

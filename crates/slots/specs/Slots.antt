@@ -24,8 +24,8 @@ abbrev pub slotOf : ℕ → ℕ → ℕ
 slotOf room back = (roomOf room + slots - back) % slots
 
 -- so many bytes of a slot, a whole slot at most
-abbrev pub textIn : List ℕ → ℕ → ℕ → List ℕ
-textIn texts slot len = take (min len roomSize) (drop (slot * roomSize) texts)
+abbrev pub slotText : List ℕ → ℕ → ℕ → List ℕ
+slotText texts slot len = take (min len roomSize) (drop (slot * roomSize) texts)
 
 abbrev pub waitingIn : List ℕ → ℕ → ℕ → List ℕ
-waitingIn texts room len = textIn texts (roomOf room) len
+waitingIn texts room len = slotText texts (roomOf room) len

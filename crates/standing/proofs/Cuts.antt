@@ -12,16 +12,16 @@ use Rattle.parts.specs.Bytes.{going, tells}
 use Rattle.parts.proofs.Agree.{agree}
 use Rattle.journal_spec.specs.Lines.{brokenLine}
 use Rattle.journal_spec.specs.Transcript.{transcript}
-use Rattle.standing.specs.Standing.{Standing, start, closed, nothingDue, stopOf, finished}
+use Rattle.standing.specs.Standing.{Standing, startStanding, closed, nothingDue, stopOf, finished}
 use Rattle.standing.specs.Filling.{fillOf}
-use Rattle.standing.specs.Calls.{Call, fills, stops, play, Cuts}
+use Rattle.standing.specs.Calls.{TranscriptCall, fills, stops, play, Cuts}
 use Rattle.counts.proofs.KeptCounts.{told, told-is}
 use Rattle.base.proofs.Fronts.{empty}
 use Rattle.standing.proofs.StillToGive.{owed, stop-owed}
 use Rattle.standing.proofs.Filling.{gets, fill-owed}
 
 -- any calls
-pub kept : (ks : List Call) (c : Standing) (rest : List ℕ) → owed c rest ≡ play ks c rest .given ++ owed (play ks c rest .standing) (play ks c rest .rest)
+pub kept : (ks : List TranscriptCall) (c : Standing) (rest : List ℕ) → owed c rest ≡ play ks c rest .given ++ owed (play ks c rest .standing) (play ks c rest .rest)
 unfolding play
 kept [] c rest = refl
 kept (fills n m ∷ ks) c rest =
@@ -43,11 +43,11 @@ finished-owes c rest h = go (going (c .reading .part)) (eqb (c .marks) 0) refl (
     go false true e false f z = absurd (true≢false (sym z))
     go false false e d f z = absurd (true≢false (sym z))
 
-start-owes : (j : List ℕ) → transcript j ≡ owed start j
-start-owes j = sym (told-is j) ∙ ap (told (start .receiver) (start .counts)) (sym (agree j))
+start-owes : (j : List ℕ) → transcript j ≡ owed startStanding j
+start-owes j = sym (told-is j) ∙ ap (told (startStanding .receiver) (startStanding .counts)) (sym (agree j))
 
-kept-from : (j : List ℕ) (ks : List Call) → transcript j ≡ play ks start j .given ++ owed (play ks start j .standing) (play ks start j .rest)
-kept-from j ks = start-owes j ∙ kept ks start j
+kept-from : (j : List ℕ) (ks : List TranscriptCall) → transcript j ≡ play ks startStanding j .given ++ owed (play ks startStanding j .standing) (play ks startStanding j .rest)
+kept-from j ks = start-owes j ∙ kept ks startStanding j
 
 stops-all : (c : Standing) → nothingDue c ≡ true → going (stopOf c .reading .part) ≡ false
 unfolding stopOf
@@ -59,11 +59,11 @@ stops-all c h = go (going (c .reading .part)) refl
 
 pub cuts : Cuts
 cuts = record {
-  front = λ j ks. (owed (play ks start j .standing) (play ks start j .rest), kept-from j ks);
+  front = λ j ks. (owed (play ks startStanding j .standing) (play ks startStanding j .rest), kept-from j ks);
   whole = λ j ks h.
       sym (kept-from j ks
-      ∙ ap (λ (l : List ℕ). play ks start j .given ++ l) (finished-owes (play ks start j .standing) (play ks start j .rest) h)
-      ∙ append-nil (play ks start j .given));
+      ∙ ap (λ (l : List ℕ). play ks startStanding j .given ++ l) (finished-owes (play ks startStanding j .standing) (play ks startStanding j .rest) h)
+      ∙ append-nil (play ks startStanding j .given));
   fills-up = λ c x n. gets c x n .fills-up;
   uses-all = λ c x n. gets c x n .uses-all;
   stops-all = stops-all;

@@ -11,7 +11,7 @@ use Rattle.parts.specs.declared.Part.{Part}
 use Rattle.parts.specs.declared.Part.the-variants.{Kind, Types, Red, Length, Low, Piece, Time, Opened, Packet, Ended, Broken}
 use Rattle.parts.specs.Bytes.{Reading, readTo, unread, going}
 use Rattle.journal_spec.specs.Lines.{brokenLine}
-use Rattle.standing.specs.Standing.{Standing, closed, settled, settledAt, waits, after, hungry, nothingDue, takeOf, usedOf, giveOf, givenOf, marksIn, textIn, stopOf}
+use Rattle.standing.specs.Standing.{Standing, closed, settled, settledAt, waits, readOn, hungry, nothingDue, takeOf, usedOf, giveOf, givenOf, marksIn, textFits, stopOf}
 use Rattle.printing.proofs.Fitting.{fitting-length, fitting-fits}
 use Rattle.standing.proofs.Unread.{unread-less, goes-on}
 use Rattle.standing.proofs.Settled.{waits-at}
@@ -57,9 +57,9 @@ take-left c x = go (hungry c)
     used : ℕ
     used = length (take (c .left) x) - length (unread (c .reading) (take (c .left) x))
 
-    go : (b : Bool) → cond b (settledAt (readTo (c .reading) (take (c .left) x) .part) (after c (readTo (c .reading) (take (c .left) x)) (c .left - cond b used 0))) c .left + cond b used 0 ≡ c .left
+    go : (b : Bool) → cond b (settledAt (readTo (c .reading) (take (c .left) x) .part) (readOn c (readTo (c .reading) (take (c .left) x)) (c .left - cond b used 0))) c .left + cond b used 0 ≡ c .left
     go true =
-        rw (settled-left (readTo (c .reading) (take (c .left) x) .part) (after c (readTo (c .reading) (take (c .left) x)) (c .left - used)))
+        rw (settled-left (readTo (c .reading) (take (c .left) x) .part) (readOn c (readTo (c .reading) (take (c .left) x)) (c .left - used)))
         (omega (arith, length-take (c .left) x))
     go false = omega arith
 
@@ -75,7 +75,7 @@ stop-left c = go (hungry c)
     go true = refl
     go false = refl
 
-pub given-length : (c : Standing) (n : ℕ) → length (givenOf c n) ≡ 3 * marksIn c n + textIn c n
+pub given-length : (c : Standing) (n : ℕ) → length (givenOf c n) ≡ 3 * marksIn c n + textFits c n
 unfolding givenOf
 given-length c n = fitting-length (c .marks) (c .text) n
 
@@ -86,7 +86,7 @@ rest c n = record {
   counts = c .counts;
   left = c .left;
   marks = c .marks - marksIn c n;
-  text = drop (textIn c n) (c .text);
+  text = drop (textFits c n) (c .text);
 }
 
 pub gives-rest : (c : Standing) (n : ℕ) → giveOf c n ≡ rest c n
@@ -107,11 +107,11 @@ unfolding usedOf
 used-some c x h l = rw h (omega arith)
 
 -- at the limit reading ends
-none-left : (c : Standing) (r : Reading) (n : ℕ) → going (r .part) ≡ true → n ≡ 0 → going (settled (after c r n) .reading .part) ≡ false
+none-left : (c : Standing) (r : Reading) (n : ℕ) → going (r .part) ≡ true → n ≡ 0 → going (settled (readOn c r n) .reading .part) ≡ false
 unfolding settled
 none-left c r n g z =
-    ap (λ (w : Standing). going (w .reading .part)) (waits-at (r .part) (after c r n) g)
-    ∙ ap (λ (b : Bool). going (cond b (closed (after c r n) Broken brokenLine) (after c r n) .reading .part)) (eq-eqb n 0 z)
+    ap (λ (w : Standing). going (w .reading .part)) (waits-at (r .part) (readOn c r n) g)
+    ∙ ap (λ (b : Bool). going (cond b (closed (readOn c r n) Broken brokenLine) (readOn c r n) .reading .part)) (eq-eqb n 0 z)
 
 none-read : (r : Reading) (n : ℕ) (x : List ℕ) → n ≡ 0 → readTo r (take n x) ≡ r
 unfolding readTo
@@ -121,7 +121,7 @@ ends-at-limit : (c : Standing) (x : List ℕ) → hungry c ≡ true → c .left 
 unfolding takeOf
 ends-at-limit c x h z =
     rw h
-    (ap (λ (r : Reading). going (settled (after c r (c .left - usedOf c x)) .reading .part)) (none-read (c .reading) (c .left) x z)
+    (ap (λ (r : Reading). going (settled (readOn c r (c .left - usedOf c x)) .reading .part)) (none-read (c .reading) (c .left) x z)
     ∙ none-left c (c .reading) (c .left - usedOf c x) (goes-on c h) (omega arith))
 
 -- where nothing is due, `take` uses a byte of what it is lent, or reading ends
@@ -144,16 +144,16 @@ leaves-no-room c n h = rw (given-length c n) (go (eqb (marksIn c n) (c .marks)) 
   where
     go : (a : Bool) → eqb (marksIn c n) (c .marks) ≡ a → n < 3 * marksIn c n + cond a (min (n - 3 * marksIn c n) (length (c .text))) 0 + 3
     go false e = let few = eqb-false (marksIn c n) (c .marks) e in omega arith
-    go true e = text (eqb (c .marks - marksIn c n) 0) refl (eqb (length (drop (textIn c n) (c .text))) 0) refl h
+    go true e = text (eqb (c .marks - marksIn c n) 0) refl (eqb (length (drop (textFits c n) (c .text))) 0) refl h
       where
         all : marksIn c n ≡ c .marks
         all = eqb-true (marksIn c n) (c .marks) e
 
-        much : textIn c n ≡ min (n - 3 * marksIn c n) (length (c .text))
+        much : textFits c n ≡ min (n - 3 * marksIn c n) (length (c .text))
         much = ap (λ (t : Bool). cond t (min (n - 3 * marksIn c n) (length (c .text))) 0) e
 
-        text : (b : Bool) → eqb (c .marks - marksIn c n) 0 ≡ b → (d : Bool) → eqb (length (drop (textIn c n) (c .text))) 0 ≡ d → b && d ≡ false
+        text : (b : Bool) → eqb (c .marks - marksIn c n) 0 ≡ b → (d : Bool) → eqb (length (drop (textFits c n) (c .text))) 0 ≡ d → b && d ≡ false
             → n < 3 * marksIn c n + min (n - 3 * marksIn c n) (length (c .text)) + 3
         text true f true g z = absurd (true≢false z)
-        text true f false g z = omega (arith, much, eqb-false (length (drop (textIn c n) (c .text))) 0 g, length-drop (textIn c n) (c .text))
+        text true f false g z = omega (arith, much, eqb-false (length (drop (textFits c n) (c .text))) 0 g, length-drop (textFits c n) (c .text))
         text false f d g z = absurd (eqb-false (c .marks - marksIn c n) 0 f (omega (arith, all)))

@@ -15,7 +15,7 @@ use Rattle.journal_spec.specs.Contents.{Contents}
 use Rattle.parts.specs.Bytes.{Reading, readTo, unread, going, byte, tells, telling, past}
 use Rattle.journal_spec.specs.Lines.{brokenLine}
 use Rattle.counts.specs.Counts.{lineOf}
-use Rattle.standing.specs.Standing.{Standing, closed, settled, settledAt, waits, takeOf, usedOf, hungry, after, giveOf, givenOf, marksIn, stopOf}
+use Rattle.standing.specs.Standing.{Standing, closed, settled, settledAt, waits, takeOf, usedOf, hungry, readOn, giveOf, givenOf, marksIn, stopOf}
 use Rattle.counts.proofs.KeptCounts.{told}
 use Rattle.base.proofs.Fronts.{empty, take-more, drop-take}
 use Rattle.standing.proofs.Unread.{unread-short, goes-on}
@@ -186,7 +186,7 @@ module _ (c : Standing) (x more : List ℕ) (q : hungry c ≡ true) where
       ∙ ap (λ (l : List ℕ). l ++ Y) (suffix (c .reading) X)
 
   abbrev c₁ : Standing
-  c₁ = after c (readTo (c .reading) X) (c .left - used)
+  c₁ = readOn c (readTo (c .reading) X) (c .left - used)
 
   now-owed : owed c (x ++ more) ≡ told (c .receiver) (c .counts) (tells (c .reading) (take (c .left) (x ++ more)))
   now-owed = rw (hungry-says c q .0, hungry-says c q .1, goes-on c q)
@@ -206,7 +206,7 @@ unfolding takeOf usedOf
 take-owed c x more = go (hungry c) refl
   where
     go : (b : Bool) → hungry c ≡ b
-        → owed c (x ++ more) ≡ owed (cond b (settled (after c (readTo (c .reading) (take (c .left) x)) (c .left - cond b (used' c x) 0))) c) (drop (cond b (used' c x) 0) (x ++ more))
+        → owed c (x ++ more) ≡ owed (cond b (settled (readOn c (readTo (c .reading) (take (c .left) x)) (c .left - cond b (used' c x) 0))) c) (drop (cond b (used' c x) 0) (x ++ more))
     go true e = take-hungry c x more e
     go false e = refl
 

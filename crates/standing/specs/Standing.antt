@@ -7,13 +7,13 @@ use lib.ListN.{length, take, drop}
 use Rattle.parts.specs.declared.Part.{Part}
 use Rattle.parts.specs.declared.Part.the-variants.{Kind, Types, Red, Length, Low, Piece, Time, Opened, Packet, Ended, Broken}
 use Rattle.counts.specs.declared.Counts.{Counts}
-use Rattle.receiver_spec.specs.Opening.{openingOf}
+use Rattle.receiver_spec.specs.Opening.{openReceiver}
 use Rattle.receiver_spec.specs.State.{zeroReceiver, Receiver}
 use Rattle.receiver_spec.specs.Step.{stepOf, textGiven}
 use Rattle.receiver_spec.specs.Record.{lossOf}
 use Rattle.printing.specs.Fitting.{marksFitting, textFitting, dueFitting}
 use Rattle.journal_spec.specs.Contents.{limit}
-use Rattle.parts.specs.Bytes.{Reading, fresh, going, readTo, unread}
+use Rattle.parts.specs.Bytes.{Reading, freshReading, going, readTo, unread}
 use Rattle.journal_spec.specs.Lines.{brokenLine}
 use Rattle.counts.specs.Counts.{noCounts, counted, lineOf}
 
@@ -26,8 +26,8 @@ pub record Standing : Type 0 where
   pub marks : ℕ
   pub text : List ℕ
 
-abbrev pub start : Standing
-start = record { reading = fresh; receiver = zeroReceiver; counts = noCounts; left = limit; marks = 0; text = [] }
+abbrev pub startStanding : Standing
+startStanding = record { reading = freshReading; receiver = zeroReceiver; counts = noCounts; left = limit; marks = 0; text = [] }
 
 -- the end, with its line due
 abbrev pub closed : Standing → Part → List ℕ → Standing
@@ -41,8 +41,8 @@ closed c q line = record {
 }
 
 -- past an open or a packet
-abbrev pub onward : Standing → Bool → Receiver → Counts → ℕ → List ℕ → Standing
-onward c o r n m t = record {
+abbrev pub nextRecord : Standing → Bool → Receiver → Counts → ℕ → List ℕ → Standing
+nextRecord c o r n m t = record {
   reading = record { opened = o; part = Kind; size = 0; pieces = [] };
   receiver = r;
   counts = n;
@@ -51,13 +51,13 @@ onward c o r n m t = record {
   text = t;
 }
 
-abbrev pub packetOf : Reading → List ℕ
-packetOf r = take (r .size) (r .pieces)
+abbrev pub packetIn : Reading → List ℕ
+packetIn r = take (r .size) (r .pieces)
 
 -- a packet is read: its marks and its text are due
 abbrev pub stepped : Standing → List ℕ → Standing
 stepped c p =
-    onward c (c .reading .opened) (stepOf (c .receiver) p .receiver) (counted (stepOf (c .receiver) p .answer) (c .counts))
+    nextRecord c (c .reading .opened) (stepOf (c .receiver) p .receiver) (counted (stepOf (c .receiver) p .answer) (c .counts))
     (lossOf (stepOf (c .receiver) p .answer)) (textGiven p (stepOf (c .receiver) p .answer))
 
 -- more is to come, unless the limit is reached
@@ -65,8 +65,8 @@ abbrev pub waits : Standing → Standing
 waits c = cond (eqb (c .left) 0) (closed c Broken brokenLine) c
 
 abbrev pub settledAt : Part → Standing → Standing
-settledAt (Opened t140 red) c = onward c true (openingOf t140 red .receiver) (c .counts) 0 []
-settledAt Packet c = stepped c (packetOf (c .reading))
+settledAt (Opened t140 red) c = nextRecord c true (openReceiver t140 red .receiver) (c .counts) 0 []
+settledAt Packet c = stepped c (packetIn (c .reading))
 settledAt Ended c = closed c Ended (lineOf (c .counts))
 settledAt Broken c = closed c Broken brokenLine
 settledAt Kind c = waits c
@@ -81,8 +81,8 @@ settledAt (Time n) c = waits c
 unfoldable pub settled : Standing → Standing
 settled c = settledAt (c .reading .part) c
 
-abbrev pub after : Standing → Reading → ℕ → Standing
-after c r n = record { reading = r; receiver = c .receiver; counts = c .counts; left = n; marks = 0; text = [] }
+abbrev pub readOn : Standing → Reading → ℕ → Standing
+readOn c r n = record { reading = r; receiver = c .receiver; counts = c .counts; left = n; marks = 0; text = [] }
 
 abbrev pub nothingDue : Standing → Bool
 nothingDue c = eqb (c .marks) 0 && eqb (length (c .text)) 0
@@ -100,14 +100,14 @@ unfoldable pub usedOf : Standing → List ℕ → ℕ
 usedOf c x = cond (hungry c) (length (take (c .left) x) - length (unread (c .reading) (take (c .left) x))) 0
 
 unfoldable pub takeOf : Standing → List ℕ → Standing
-takeOf c x = cond (hungry c) (settled (after c (readTo (c .reading) (take (c .left) x)) (c .left - usedOf c x))) c
+takeOf c x = cond (hungry c) (settled (readOn c (readTo (c .reading) (take (c .left) x)) (c .left - usedOf c x))) c
 
 -- how many marks and how many bytes of text go into a space of n bytes
 abbrev pub marksIn : Standing → ℕ → ℕ
 marksIn c n = marksFitting (c .marks) n
 
-abbrev pub textIn : Standing → ℕ → ℕ
-textIn c n = textFitting (c .marks) (c .text) n
+abbrev pub textFits : Standing → ℕ → ℕ
+textFits c n = textFitting (c .marks) (c .text) n
 
 unfoldable pub givenOf : Standing → ℕ → List ℕ
 givenOf c n = dueFitting (c .marks) (c .text) n
@@ -119,7 +119,7 @@ giveOf c n = record {
   counts = c .counts;
   left = c .left;
   marks = c .marks - marksIn c n;
-  text = drop (textIn c n) (c .text);
+  text = drop (textFits c n) (c .text);
 }
 
 -- the journal has no more bytes

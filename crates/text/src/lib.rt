@@ -2,9 +2,9 @@
 ghost use mathlib.Core.Path.{_≡_};
 ghost use mathlib.Core.List.{[]};
 ghost use Prim.Native.Nat.{_≤_};
-ghost use Rattle.text_spec.specs.Utf8.{next, begins, textOf};
+ghost use Rattle.text_spec.specs.Utf8.{owedAfter, begins, textOf};
 ghost use Rattle.text.specs.Owed.{owes, walked};
-ghost use Rattle.text.specs.Answer.{answered};
+ghost use Rattle.text.specs.Answer.{textAnswered};
 
 // What a letter that has begun still owes: so many tails, and the range of the next one.
 pub struct Owed {
@@ -42,7 +42,7 @@ pub fn begins(owed: Owed) -> usize
 }
 
 pub fn step(owed: Owed, byte: u8) -> Walked
-    ensures { λ r. ⌜ walked r ≡ next (owes owed) byte ⌝ }
+    ensures { λ r. ⌜ walked r ≡ owedAfter (owes owed) byte ⌝ }
 {
     let tails = owed.tails;
     if tails == 0 {
@@ -62,7 +62,7 @@ pub fn step(owed: Owed, byte: u8) -> Walked
 }
 
 fn lead(byte: u8) -> Walked
-    ensures { λ r. ⌜ walked r ≡ next [] byte ⌝ }
+    ensures { λ r. ⌜ walked r ≡ owedAfter [] byte ⌝ }
 {
     match byte {
         0..=0x7F => begun(0, 0x80, 0xBF),
@@ -92,7 +92,7 @@ pub enum Text {
 }
 
 pub fn text_of(bytes: &[u8]) -> Text
-    ensures { λ r. ⌜ answered r ≡ textOf (now (bytes .entry)) ⌝ }
+    ensures { λ r. ⌜ textAnswered r ≡ textOf (now (bytes .entry)) ⌝ }
 {
     let mut owed = fresh();
     let mut characters: usize = 0;

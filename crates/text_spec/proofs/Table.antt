@@ -7,7 +7,7 @@ use mathlib.Core.Option.{none, some}
 use native.Mathlib.Omega.{arith}
 use lib.Dec.{leb}
 use borrow.Author.Tests.{leb-true}
-use Rattle.text_spec.specs.Utf8.{Range, Row, within, rows, begun, next}
+use Rattle.text_spec.specs.Utf8.{Range, Row, within, rows, begun, owedAfter}
 use Rattle.text_spec.specs.WellFormed.{Matches, end, byte}
 use Rattle.text_spec.proofs.Rows.{inside, above}
 
@@ -40,7 +40,7 @@ module _ {r : Row} (b : ℕ) (w : within (r .first) b ≡ true) where
   own-row n i (List·Memᴰ·tail {x} m) = rw (above b (x .first .low) (x .first .high) (at-least _ (i .2) m)) (own-row _ (i .2) m)
 
   -- a byte in the first range of a row begins a letter of that row
-  pub begins-row : List·Memᴰ r rows → next [] b ≡ some (r .rest)
+  pub begins-row : List·Memᴰ r rows → owedAfter [] b ≡ some (r .rest)
   begins-row m = own-row 0 rising m
 
 -- the row that a byte was found in
@@ -64,7 +64,7 @@ pub data Step : List Range → ℕ → List Range → Type 0 where
   new : {b : ℕ} {rest : List Range} → Found rows b rest → Step [] b rest
   on : {r : Range} {rs : List Range} {b : ℕ} → within r b ≡ true → Step (r ∷ rs) b rs
 
-pub stepped : (owed : List Range) (b : ℕ) {rest : List Range} → next owed b ≡ some rest → Step owed b rest
+pub stepped : (owed : List Range) (b : ℕ) {rest : List Range} → owedAfter owed b ≡ some rest → Step owed b rest
 stepped [] b e = new (found rows b e)
 stepped (r ∷ rs) b {rest} e = go (within r b) refl e
   where

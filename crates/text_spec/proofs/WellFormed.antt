@@ -7,7 +7,7 @@ use native.Mathlib.Nat.{add-zero, zero-add}
 use native.Mathlib.Numerals.{add-one}
 use native.Mathlib.Omega.{arith}
 use lib.ListN.{length, take}
-use Rattle.text_spec.specs.Utf8.{Text, Characters, Stops, Range, next, begins, onward, textFrom, textOf}
+use Rattle.text_spec.specs.Utf8.{Text, Characters, Stops, Range, owedAfter, begins, ifOwed, textFrom, textOf}
 use Rattle.text_spec.specs.WellFormed.{Matches, end, byte, Letter, Letters, empty, more}
 use Rattle.text_spec.proofs.Walks.{text-on, text-stops}
 use Rattle.text_spec.proofs.Table.{never, begins-row, Step, new, on, stepped, Proper, step-proper, paid}
@@ -38,10 +38,10 @@ ends-on (on {b} w) f =
 ends : (s : List ℕ) (owed : List Range) (m at n : ℕ) → textFrom owed m at s ≡ Characters n → (k : ℕ) × (n ≡ m + k) × Ends owed k s
 ends [] [] m at n e = (0, rw add-zero cc, record { owing = []; others = []; matches = end; letters = empty; joined = refl })
 ends [] (r ∷ rs) m at n e = never cc
-ends (b ∷ bs) owed m at n e = go (next owed b) refl e (λ rest. ends bs rest (m + begins owed) (at + 1) n)
+ends (b ∷ bs) owed m at n e = go (owedAfter owed b) refl e (λ rest. ends bs rest (m + begins owed) (at + 1) n)
   where
-    go : (o : Option (List Range)) → next owed b ≡ o
-        → onward o (λ rest. textFrom rest (m + begins owed) (at + 1) bs) (Stops at) ≡ Characters n
+    go : (o : Option (List Range)) → owedAfter owed b ≡ o
+        → ifOwed o (λ rest. textFrom rest (m + begins owed) (at + 1) bs) (Stops at) ≡ Characters n
         → ((rest : List Range) → textFrom rest (m + begins owed) (at + 1) bs ≡ Characters n → (k : ℕ) × (n ≡ m + begins owed + k) × Ends rest k bs)
         → (k : ℕ) × (n ≡ m + k) × Ends owed k (b ∷ bs)
     go none p e f = never cc
@@ -90,12 +90,12 @@ record Halts (owed : List Range) (m at : ℕ) (s : List ℕ) (k : ℕ) : Type 0 
 finish : (owed : List Range) (m at : ℕ) → Proper owed → (t : List ℕ) × (n : ℕ) × (textFrom owed m at t ≡ Characters n)
 finish owed m at p = let (t, x) = paid owed p in (t ++ [], m, pass-owed [] m (Characters m) x (λ i. refl) at)
 
-halts-here : (owed : List Range) (m at b : ℕ) (bs : List ℕ) → Proper owed → next owed b ≡ none → Halts owed m at (b ∷ bs) 0
+halts-here : (owed : List Range) (m at b : ℕ) (bs : List ℕ) → Proper owed → owedAfter owed b ≡ none → Halts owed m at (b ∷ bs) 0
 halts-here owed m at b bs p q =
     record { fits = omega arith; before = finish owed m at p; there = λ h t n c. never (cc (text-stops owed m at b t q)) }
 
 halts-on : (owed : List Range) (m at b : ℕ) (bs : List ℕ) {rest : List Range} {i : ℕ}
-    → next owed b ≡ some rest → Halts rest (m + begins owed) (at + 1) bs i → Halts owed m at (b ∷ bs) (suc i)
+    → owedAfter owed b ≡ some rest → Halts rest (m + begins owed) (at + 1) bs i → Halts owed m at (b ∷ bs) (suc i)
 halts-on owed m at b bs {i} q h =
     let (t, n, c) = h .before in
     record {
@@ -108,10 +108,10 @@ halts : (s : List ℕ) (owed : List Range) (m at k : ℕ) → Proper owed → te
 halts [] [] m at k p e = never cc
 halts [] (r ∷ rs) m at k p e =
     (0, rw add-zero cc, record { fits = omega arith; before = finish (r ∷ rs) m at p; there = λ h. absurd (omega arith) })
-halts (b ∷ bs) owed m at k p e = go (next owed b) refl e (λ rest. halts bs rest (m + begins owed) (at + 1) k)
+halts (b ∷ bs) owed m at k p e = go (owedAfter owed b) refl e (λ rest. halts bs rest (m + begins owed) (at + 1) k)
   where
-    go : (o : Option (List Range)) → next owed b ≡ o
-        → onward o (λ rest. textFrom rest (m + begins owed) (at + 1) bs) (Stops at) ≡ Stops k
+    go : (o : Option (List Range)) → owedAfter owed b ≡ o
+        → ifOwed o (λ rest. textFrom rest (m + begins owed) (at + 1) bs) (Stops at) ≡ Stops k
         → ((rest : List Range) → Proper rest → textFrom rest (m + begins owed) (at + 1) bs ≡ Stops k
         → (i : ℕ) × (k ≡ at + 1 + i) × Halts rest (m + begins owed) (at + 1) bs i)
         → (i : ℕ) × (k ≡ at + i) × Halts owed m at (b ∷ bs) i

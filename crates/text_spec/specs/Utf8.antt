@@ -46,9 +46,9 @@ begun [] b = none
 begun (r ∷ rs) b = cond (within (r .first) b) (some (r .rest)) (begun rs b)
 
 -- What a text still owes after one more byte: a letter that has begun goes on, else one begins.
-abbrev pub next : List Range → ℕ → Option (List Range)
-next [] b = begun rows b
-next (r ∷ rs) b = cond (within r b) (some rs) none
+abbrev pub owedAfter : List Range → ℕ → Option (List Range)
+owedAfter [] b = begun rows b
+owedAfter (r ∷ rs) b = cond (within r b) (some rs) none
 
 -- What bytes are as text: so many characters, or the place of the first byte at which they can no longer be well formed (their
 -- end, where they stop inside a letter).
@@ -64,14 +64,14 @@ abbrev pub stopped : List Range → ℕ → ℕ → Text
 stopped [] n at = Characters n
 stopped (r ∷ rs) n at = Stops at
 
-abbrev pub onward : {A : Type 0} → Option (List Range) → (List Range → A) → A → A
-onward none f a = a
-onward (some rs) f a = f rs
+abbrev pub ifOwed : {A : Type 0} → Option (List Range) → (List Range → A) → A → A
+ifOwed none f a = a
+ifOwed (some rs) f a = f rs
 
 -- The text from a place on, with n letters begun before it, of which the last still owes bytes in these ranges.
 abbrev pub textFrom : List Range → ℕ → ℕ → List ℕ → Text
 textFrom owed n at [] = stopped owed n at
-textFrom owed n at (b ∷ bs) = onward (next owed b) (λ rest. textFrom rest (n + begins owed) (at + 1) bs) (Stops at)
+textFrom owed n at (b ∷ bs) = ifOwed (owedAfter owed b) (λ rest. textFrom rest (n + begins owed) (at + 1) bs) (Stops at)
 
 abbrev pub textOf : List ℕ → Text
 textOf s = textFrom [] 0 0 s

@@ -15,9 +15,9 @@ use Rattle.packet_spec.specs.Limits.{level}
 use Rattle.sender_spec.specs.Limits.{roomSize}
 use Rattle.sender_spec.specs.Answers.{refused, quiet, sent}
 use Rattle.writer.specs.Draft.{Result, answerBy, putOf}
-use Rattle.carrying.specs.Young.{youngRun, textTotal}
+use Rattle.carrying.specs.internal.Young.{youngRun, textTotal}
 use Rattle.slots.specs.Slots.{textsSize}
-use Rattle.writer.specs.Parts.{packetWith, packetSize}
+use Rattle.writer.specs.internal.Parts.{packetWith, packetSize}
 use Rattle.writer.proofs.Whole.{packet-is, size-is, some-is}
 
 -- a packet has a header

@@ -13,24 +13,24 @@ use Rattle.base.proofs.Tests.{by-test}
 use Rattle.packet_spec.specs.Redundancy.{blocksOf, joined}
 use Rattle.packet_spec.specs.Encoding.{blockHeader, headsBytes}
 use Rattle.sender_spec.specs.Limits.{roomSize}
-use Rattle.sender_spec.specs.State.{Block}
+use Rattle.sender_spec.specs.State.{SentBlock}
 use Rattle.sender_spec.specs.Packets.{recent, recentRun, anyText, repeated}
-use Rattle.slots.specs.Slots.{slotOf, textIn, textsSize}
+use Rattle.slots.specs.Slots.{slotOf, slotText, textsSize}
 use Rattle.writer.specs.Draft.{blocksFrom}
-use Rattle.carrying.specs.Young.{young, youngRun, textTotal}
+use Rattle.carrying.specs.internal.Young.{young, youngRun, textTotal}
 use Rattle.carrying.proofs.Young.{AllYoung, young-age}
-use Rattle.heading.specs.LastFirst.{lastFirst}
-use Rattle.heading.specs.Headers.{offsetOf, headAt, headsOf}
+use Rattle.heading.specs.internal.LastFirst.{lastFirst}
+use Rattle.heading.specs.internal.Headers.{offsetOf, headAt, headersFor}
 use Rattle.heading.proofs.LastFirst.{last-none, last-more}
-use Rattle.writer.specs.Parts.{textAt}
+use Rattle.writer.specs.internal.Parts.{textAt}
 use Rattle.writer.proofs.Slots.{kept-length}
 
-reverse-last-onto : (xs ys : List Block) (x : Block) → reverseAux (xs ++ (x ∷ [])) ys ≡ x ∷ reverseAux xs ys
+reverse-last-onto : (xs ys : List SentBlock) (x : SentBlock) → reverseAux (xs ++ (x ∷ [])) ys ≡ x ∷ reverseAux xs ys
 reverse-last-onto [] ys x = refl
 reverse-last-onto (y ∷ xs) ys x = reverse-last-onto xs (y ∷ ys) x
 
 -- the one to write first is the last
-reverse-more : (bs : List Block) (n : ℕ) (d : Block) → n < length bs → reverse (take (suc n) bs) ≡ getD bs n d ∷ reverse (take n bs)
+reverse-more : (bs : List SentBlock) (n : ℕ) (d : SentBlock) → n < length bs → reverse (take (suc n) bs) ≡ getD bs n d ∷ reverse (take n bs)
 reverse-more bs n d h = ap reverse (take-suc bs n d h) ∙ reverse-last-onto (take n bs) [] (getD bs n d)
 
 pub take-least : {A : Type 0} (m n : ℕ) (l : List A) → take m (take n l) ≡ take (min m n) l
@@ -43,21 +43,21 @@ take-least {A} m n l = go (leb m n) refl
         let f : n ≡ min m n = omega arith in
         take-all m (take n l) (omega (arith, length-take n l)) ∙ ap (λ (k : ℕ). take k l) f
 
-pub run-front : (t : ℕ) (bs : List Block) → recentRun t bs ≡ take (length (recentRun t bs)) bs
+pub run-front : (t : ℕ) (bs : List SentBlock) → recentRun t bs ≡ take (length (recentRun t bs)) bs
 run-front t [] = refl
-run-front t (b ∷ bs) = by-test (λ (r : List Block). r ≡ take (length r) (b ∷ bs)) (recent t b) (λ e. ap (λ (l : List Block). b ∷ l) (run-front t bs)) (λ e. refl)
+run-front t (b ∷ bs) = by-test (λ (r : List SentBlock). r ≡ take (length r) (b ∷ bs)) (recent t b) (λ e. ap (λ (l : List SentBlock). b ∷ l) (run-front t bs)) (λ e. refl)
 
 some-of : (m n : ℕ) → (ltb 0 m || ltb 0 n) ≡ ltb 0 (m + n)
 some-of zero n = let e : n ≡ 0 + n = omega arith in ap (ltb 0) e
 some-of (suc m) n = rw (lt-ltb 0 (suc m) (omega arith), lt-ltb 0 (suc m + n) (omega arith))
 
-pub some-text : (x : List ℕ) (bs : List Block) (m n : ℕ) → length x ≡ m → anyText bs ≡ ltb 0 n → (ltb 0 (length x) || anyText bs) ≡ ltb 0 (n + m)
+pub some-text : (x : List ℕ) (bs : List SentBlock) (m n : ℕ) → length x ≡ m → anyText bs ≡ ltb 0 n → (ltb 0 (length x) || anyText bs) ≡ ltb 0 (n + m)
 some-text x bs m n e f =
     let g : m + n ≡ n + m = omega arith in
     (λ i. ltb 0 (e i) || f i) ∙ some-of m n ∙ ap (ltb 0) g
 
-abbrev block : List ℕ → ℕ → ℕ → ℕ → ℕ → Block
-block texts room back len at = record { text = textIn texts (slotOf room back) len; at = at }
+abbrev block : List ℕ → ℕ → ℕ → ℕ → ℕ → SentBlock
+block texts room back len at = record { text = slotText texts (slotOf room back) len; at = at }
 
 module _ (texts : List ℕ) (room : ℕ) where
   pub blocks-length : (lens ats : List ℕ) (back : ℕ) → length lens ≡ length ats → length (blocksFrom texts room back lens ats) ≡ length ats
@@ -66,7 +66,7 @@ module _ (texts : List ℕ) (room : ℕ) where
   blocks-length (n ∷ lens) [] back e = absurd (omega arith)
   blocks-length (n ∷ lens) (at ∷ ats) back e = ap suc (blocks-length lens ats (suc back) (omega arith))
 
-  blocks-at : (lens ats : List ℕ) (back i : ℕ) (d : Block) → i < length lens → i < length ats
+  blocks-at : (lens ats : List ℕ) (back i : ℕ) (d : SentBlock) → i < length lens → i < length ats
       → getD (blocksFrom texts room back lens ats) i d ≡ block texts room (i + back) (getD lens i 0) (getD ats i 0)
   blocks-at [] ats back i d h k = absurd (not-suc-le-zero h)
   blocks-at (n ∷ lens) [] back i d h k = absurd (not-suc-le-zero k)
@@ -100,30 +100,30 @@ module _ (texts : List ℕ) (room : ℕ) where
 
   -- the first n, oldest first
   module _ (t : ℕ) (lens ats : List ℕ) (same : length lens ≡ length ats) where
-    abbrev kept : List Block
+    abbrev kept : List SentBlock
     kept = blocksFrom texts room 1 lens ats
 
-    none : Block
+    none : SentBlock
     none = record { text = []; at = 0 }
 
     last-kept : (n : ℕ) → n < length ats → reverse (take (suc n) kept) ≡ block texts room (suc n) (getD lens n 0) (getD ats n 0) ∷ reverse (take n kept)
     last-kept n h =
         let e : n + 1 ≡ suc n = omega arith in
         reverse-more kept n none (omega (arith, blocks-length lens ats 1 same))
-        ∙ ap (λ (b : Block). b ∷ reverse (take n kept)) (blocks-at lens ats 1 n none (omega arith) h ∙ ap (λ (b : ℕ). block texts room b (getD lens n 0) (getD ats n 0)) e)
+        ∙ ap (λ (b : SentBlock). b ∷ reverse (take n kept)) (blocks-at lens ats 1 n none (omega arith) h ∙ ap (λ (b : ℕ). block texts room b (getD lens n 0) (getD ats n 0)) e)
 
     pub kept-heads : length texts ≡ textsSize → (t140 n : ℕ) → n ≤ length ats → AllYoung t ats n
-        → headsBytes t140 (map (repeated t) (reverse (take n kept))) ≡ headsOf t140 t lens ats n
+        → headsBytes t140 (map (repeated t) (reverse (take n kept))) ≡ headersFor t140 t lens ats n
     kept-heads whole t140 zero h all = sym (last-none (headAt t140 t lens ats) (t140 ∷ []))
     kept-heads whole t140 (suc n) h all =
         let age : t - getD ats n 0 ≡ offsetOf t (getD ats n 0) = sym (young-age t (getD ats n 0) (all n (omega arith))) in
-        ap (λ (l : List Block). headsBytes t140 (map (repeated t) l)) (last-kept n h)
+        ap (λ (l : List SentBlock). headsBytes t140 (map (repeated t) l)) (last-kept n h)
         ∙ (λ i. blockHeader t140 (age i) (kept-length texts whole room (suc n) (getD lens n 0) i) ++ kept-heads whole t140 n (omega arith) (λ j k. all j (omega (arith, k))) i)
         ∙ sym (last-more (headAt t140 t lens ats) (t140 ∷ []) n)
 
     pub kept-texts : (x : List ℕ) (n : ℕ) → n ≤ length ats → joined (blocksOf (map (repeated t) (reverse (take n kept))) x) ≡ lastFirst (textAt texts room lens) x n
     kept-texts x zero h = append-nil x ∙ sym (last-none (textAt texts room lens) x)
     kept-texts x (suc n) h =
-        ap (λ (l : List Block). joined (blocksOf (map (repeated t) l) x)) (last-kept n h)
+        ap (λ (l : List SentBlock). joined (blocksOf (map (repeated t) l) x)) (last-kept n h)
         ∙ ap (λ (l : List ℕ). textAt texts room lens n ++ l) (kept-texts x n (omega arith))
         ∙ sym (last-more (textAt texts room lens) x n)

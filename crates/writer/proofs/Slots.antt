@@ -5,15 +5,15 @@ use mathlib.Core.List.{List}
 use native.Mathlib.Omega.{arith}
 use lib.ListN.{length}
 use Rattle.sender_spec.specs.Limits.{roomSize}
-use Rattle.slots.specs.Slots.{slots, slotOf, textIn, waitingIn, textsSize}
-use Rattle.writer.specs.Parts.{waitingAt}
+use Rattle.slots.specs.Slots.{slots, slotOf, slotText, waitingIn, textsSize}
+use Rattle.writer.specs.internal.Parts.{waitingAt}
 use Rattle.slots.proofs.Slots.{slot-now, text-length}
 
 pub slot-slot : (room back : ℕ) → slotOf room back < slots
 slot-slot room back = omega arith
 
 pub waiting-at : (texts : List ℕ) (room len : ℕ) → waitingAt texts room len ≡ waitingIn texts room len
-waiting-at texts room len = ap (λ (s : ℕ). textIn texts s len) (slot-now room)
+waiting-at texts room len = ap (λ (s : ℕ). slotText texts s len) (slot-now room)
 
-pub kept-length : (texts : List ℕ) → length texts ≡ textsSize → (room back len : ℕ) → length (textIn texts (slotOf room back) len) ≡ min len roomSize
+pub kept-length : (texts : List ℕ) → length texts ≡ textsSize → (room back len : ℕ) → length (slotText texts (slotOf room back) len) ≡ min len roomSize
 kept-length texts whole room back len = text-length texts whole (slotOf room back) len (slot-slot room back)

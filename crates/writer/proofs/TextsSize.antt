@@ -5,11 +5,11 @@ use mathlib.Core.List.{List}
 use native.Mathlib.Omega.{arith}
 use lib.ListN.{length, take, getD, length-append}
 use Rattle.sender_spec.specs.Limits.{roomSize}
-use Rattle.carrying.specs.Young.{textTotal}
+use Rattle.carrying.specs.internal.Young.{textTotal}
 use Rattle.carrying.proofs.Total.{total-more}
 use Rattle.heading.proofs.LastFirst.{last-none, last-more}
 use Rattle.slots.specs.Slots.{textsSize}
-use Rattle.writer.specs.Parts.{textAt, waitingAt, textsOf}
+use Rattle.writer.specs.internal.Parts.{textAt, waitingAt, textsOf}
 use Rattle.writer.proofs.Slots.{kept-length}
 
 pub texts-size : (texts : List ℕ) → length texts ≡ textsSize → (room : ℕ) (lens : List ℕ) (len n : ℕ) → n ≤ length lens

@@ -13,17 +13,17 @@ use Rattle.packet_spec.specs.Limits.{level}
 use Rattle.packet_spec.specs.Encoding.{markerBit, fixedHeader, headsBytes}
 use Rattle.packet_spec.specs.Redundancy.{joined, blocksOf}
 use Rattle.sender_spec.specs.Limits.{roomSize}
-use Rattle.sender_spec.specs.State.{Block, hasText}
+use Rattle.sender_spec.specs.State.{SentBlock, hasText}
 use Rattle.sender_spec.specs.Packets.{recentRun, anyText, repeated}
-use Rattle.writer.specs.Draft.{blocksFrom, carriedBy, primaryOf, packetOf}
-use Rattle.carrying.specs.Young.{youngRun, textTotal}
+use Rattle.writer.specs.Draft.{blocksFrom, carriedBy, draftPrimary, draftPacket}
+use Rattle.carrying.specs.internal.Young.{youngRun, textTotal}
 use Rattle.carrying.proofs.Young.{AllYoung, run-few, run-young}
-use Rattle.heading.specs.LastFirst.{lastFirst}
-use Rattle.heading.specs.Headers.{headsOf, headsWith, frontWith}
+use Rattle.heading.specs.internal.LastFirst.{lastFirst}
+use Rattle.heading.specs.internal.Headers.{headersFor, headsWith, frontWith}
 use Rattle.heading.proofs.LastFirst.{last-none}
 use Rattle.heading.proofs.Headers as Headers
 use Rattle.slots.specs.Slots.{textsSize}
-use Rattle.writer.specs.Parts.{textAt, waitingAt, textsOf, frontIn, packetWith, packetSize}
+use Rattle.writer.specs.internal.Parts.{textAt, waitingAt, textsOf, frontIn, packetWith, packetSize}
 use Rattle.writer.proofs.Slots.{waiting-at, kept-length}
 use Rattle.writer.proofs.TextsSize.{texts-size}
 use Rattle.writer.proofs.Kept.{take-least, run-front, some-text, run-length, any-total, kept-heads, kept-texts}
@@ -34,7 +34,7 @@ module _ (d : Draft) (texts : List ℕ) (n : ℕ) (lens : length (d .lens) ≡ l
   abbrev most : ℕ
   most = min (d .level) (d .count)
 
-  abbrev kept : List Block
+  abbrev kept : List SentBlock
   kept = blocksFrom texts (d .room) 1 (d .lens) (d .ats)
 
   same : length (d .lens) ≡ length (d .ats)
@@ -56,27 +56,27 @@ module _ (d : Draft) (texts : List ℕ) (n : ℕ) (lens : length (d .lens) ≡ l
       ∙ ap (λ (k : ℕ). take k (take most kept)) e
       ∙ take-take n most kept h
 
-  waiting : waitingAt texts (d .room) (d .len) ≡ primaryOf d texts
+  waiting : waitingAt texts (d .room) (d .len) ≡ draftPrimary d texts
   waiting = waiting-at texts (d .room) (d .len)
 
-  abbrev older : List Block → List ℕ → List ℕ
+  abbrev older : List SentBlock → List ℕ → List ℕ
   older bs x = headsBytes (d .t140 % 128) (map (repeated (d .clock)) (reverse bs)) ++ joined (blocksOf (map (repeated (d .clock)) (reverse bs)) x)
 
-  parts : older (carriedBy d texts) (primaryOf d texts) ≡ headsOf (d .t140 % 128) (d .clock) (d .lens) (d .ats) n ++ textsOf texts (d .room) (d .lens) (d .len) n
+  parts : older (carriedBy d texts) (draftPrimary d texts) ≡ headersFor (d .t140 % 128) (d .clock) (d .lens) (d .ats) n ++ textsOf texts (d .room) (d .lens) (d .len) n
   parts =
       let h : n ≤ length (d .ats) = omega (arith, few) in
-      ap (λ (bs : List Block). older bs (primaryOf d texts)) front
-      ∙ (λ i. kept-heads texts (d .room) (d .clock) (d .lens) (d .ats) same whole (d .t140 % 128) n h all-young i ++ kept-texts texts (d .room) (d .clock) (d .lens) (d .ats) same (primaryOf d texts) n h i)
-      ∙ ap (λ (x : List ℕ). headsOf (d .t140 % 128) (d .clock) (d .lens) (d .ats) n ++ lastFirst (textAt texts (d .room) (d .lens)) x n) (sym waiting)
+      ap (λ (bs : List SentBlock). older bs (draftPrimary d texts)) front
+      ∙ (λ i. kept-heads texts (d .room) (d .clock) (d .lens) (d .ats) same whole (d .t140 % 128) n h all-young i ++ kept-texts texts (d .room) (d .clock) (d .lens) (d .ats) same (draftPrimary d texts) n h i)
+      ∙ ap (λ (x : List ℕ). headersFor (d .t140 % 128) (d .clock) (d .lens) (d .ats) n ++ lastFirst (textAt texts (d .room) (d .lens)) x n) (sym waiting)
 
   -- at level 0 no block is repeated
-  plain : eqb (d .level) 0 ≡ true → textsOf texts (d .room) (d .lens) (d .len) n ≡ primaryOf d texts
+  plain : eqb (d .level) 0 ≡ true → textsOf texts (d .room) (d .lens) (d .len) n ≡ draftPrimary d texts
   plain e =
       let f : d .level ≡ 0 = eqb-true (d .level) 0 e in
       let z : n ≡ 0 = omega (arith, run-few (d .clock) (take most (d .ats)), length-take most (d .ats)) in
       ap (lastFirst (textAt texts (d .room) (d .lens)) (waitingAt texts (d .room) (d .len))) z ∙ last-none (textAt texts (d .room) (d .lens)) (waitingAt texts (d .room) (d .len)) ∙ waiting
 
-  pub packet-is : packetWith d texts n ≡ packetOf d texts
+  pub packet-is : packetWith d texts n ≡ draftPacket d texts
   unfolding headsWith
   packet-is = go (eqb (d .level) 0) refl
     where
@@ -84,18 +84,18 @@ module _ (d : Draft) (texts : List ℕ) (n : ℕ) (lens : length (d .lens) ≡ l
       header type = fixedHeader (markerBit (d .marker) + type) (d .sequence) (d .timestamp) (d .source)
 
       go : (b : Bool) → eqb (d .level) 0 ≡ b
-          → header (cond b (d .t140 % 128) (d .red % 128)) ++ (cond b [] (headsOf (d .t140 % 128) (d .clock) (d .lens) (d .ats) n) ++ textsOf texts (d .room) (d .lens) (d .len) n)
-          ≡ cond b (header (d .t140 % 128) ++ primaryOf d texts) (header (d .red % 128) ++ older (carriedBy d texts) (primaryOf d texts))
+          → header (cond b (d .t140 % 128) (d .red % 128)) ++ (cond b [] (headersFor (d .t140 % 128) (d .clock) (d .lens) (d .ats) n) ++ textsOf texts (d .room) (d .lens) (d .len) n)
+          ≡ cond b (header (d .t140 % 128) ++ draftPrimary d texts) (header (d .red % 128) ++ older (carriedBy d texts) (draftPrimary d texts))
       go true e = ap (λ (l : List ℕ). header (d .t140 % 128) ++ l) (plain e)
       go false e = ap (λ (l : List ℕ). header (d .red % 128) ++ l) (sym parts)
 
   abbrev texted : List ℕ
   texted = textsOf texts (d .room) (d .lens) (d .len) n
 
-  pub front-size : length (frontWith (frontIn d) n) + length texted ≡ length (packetOf d texts)
+  pub front-size : length (frontWith (frontIn d) n) + length texted ≡ length (draftPacket d texts)
   front-size = sym (length-append (frontWith (frontIn d) n) texted) ∙ ap length packet-is
 
-  pub size-is : length (packetOf d texts) ≡ packetSize (d .level) n (textTotal (take n (d .lens))) (min (d .len) roomSize)
+  pub size-is : length (draftPacket d texts) ≡ packetSize (d .level) n (textTotal (take n (d .lens))) (min (d .len) roomSize)
   size-is =
       sym front-size ∙ ap (λ (k : ℕ). k + length texted) (Headers.front-size (frontIn d) n)
       ∙ go (eqb (d .level) 0) refl (texts-size texts whole (d .room) (d .lens) (d .len) n (omega (arith, few)))
@@ -105,7 +105,7 @@ module _ (d : Draft) (texts : List ℕ) (n : ℕ) (lens : length (d .lens) ≡ l
       go true e s = omega (arith, ap length (plain e), ap length waiting, kept-length texts whole (d .room) 0 (d .len))
       go false e s = omega arith
 
-  pub some-is : (hasText (primaryOf d texts) || anyText (carriedBy d texts)) ≡ ltb 0 (textTotal (take n (d .lens)) + min (d .len) roomSize)
+  pub some-is : (hasText (draftPrimary d texts) || anyText (carriedBy d texts)) ≡ ltb 0 (textTotal (take n (d .lens)) + min (d .len) roomSize)
   some-is =
-      some-text (primaryOf d texts) (carriedBy d texts) (min (d .len) roomSize) (textTotal (take n (d .lens))) (sym (ap length waiting) ∙ kept-length texts whole (d .room) 0 (d .len))
+      some-text (draftPrimary d texts) (carriedBy d texts) (min (d .len) roomSize) (textTotal (take n (d .lens))) (sym (ap length waiting) ∙ kept-length texts whole (d .room) 0 (d .len))
       (ap anyText front ∙ any-total texts (d .room) whole n (d .lens) (d .ats) 1 same)

@@ -7,9 +7,9 @@ ghost use Prim.Native.Nat.{_*_, _≤_};
 ghost use lib.ListN.{length};
 ghost use Rattle.packet_spec.specs.Limits.{level};
 ghost use Rattle.sender_spec.specs.Limits.{roomSize};
-ghost use Rattle.writer.specs.Draft.{answered, answerBy, isQuiet, isSent, putOf};
+ghost use Rattle.writer.specs.Draft.{clockAnswer, answerBy, isQuiet, isSent, putOf};
 ghost use Rattle.slots.specs.Slots.{textsSize};
-ghost use Rattle.writer.specs.Parts.{packetSize};
+ghost use Rattle.writer.specs.internal.Parts.{packetSize};
 use heading::Front;
 use packet::Packet;
 use packet::Refusal;
@@ -79,14 +79,14 @@ impl Answer {
 // The length of the packet, 0 where there is nothing to send. It is written to the front of the space, where that holds it; else
 // the space stays. So many texts are lent.
 pub fn put_packet(packet: &mut [u8], texts: &[u8; Texts::SIZE], draft: Draft) -> usize
-    ensures { λ r. ⌜ (record { answer = answered (answerBy r (length (now (packet .entry)))); lent = now (packet .exit) } ≡ putOf draft (now (texts .entry)) (now (packet .entry))) × (length (now (texts .entry)) ≡ textsSize) ⌝ }
+    ensures { λ r. ⌜ (record { answer = clockAnswer (answerBy r (length (now (packet .entry)))); lent = now (packet .exit) } ≡ putOf draft (now (texts .entry)) (now (packet .entry))) × (length (now (texts .entry)) ≡ textsSize) ⌝ }
 {
     put_draft(packet, texts, draft)
 }
 
 fn put_draft(packet: &mut [u8], texts: &[u8], draft: Draft) -> usize
     requires { ⌜ length (now texts) ≡ textsSize ⌝ }
-    ensures { λ r. ⌜ record { answer = answered (answerBy r (length (now (packet .entry)))); lent = now (packet .exit) } ≡ putOf draft (now (texts .entry)) (now (packet .entry)) ⌝ }
+    ensures { λ r. ⌜ record { answer = clockAnswer (answerBy r (length (now (packet .entry)))); lent = now (packet .exit) } ≡ putOf draft (now (texts .entry)) (now (packet .entry)) ⌝ }
 {
     let lens = draft.lens;
     let ats = draft.ats;

@@ -4,8 +4,8 @@ ghost use Prim.Native.Nat.{_≤_, _<_};
 ghost use lib.ListN.{length};
 ghost use Rattle.base.specs.Arrays.{over};
 ghost use Rattle.packet_spec.specs.Limits.{level};
-ghost use Rattle.slots.specs.Slots.{slots, slotOf, textIn, textsSize};
-ghost use Rattle.writer.specs.Parts.{textsOf};
+ghost use Rattle.slots.specs.Slots.{slots, slotOf, slotText, textsSize};
+ghost use Rattle.writer.specs.internal.Parts.{textsOf};
 use packet::Packet;
 use slots::Texts;
 
@@ -23,8 +23,8 @@ fn slot(room: usize, back: usize) -> usize
 
 // The text of so many packets back, or with 0 what waits; its length.
 fn put_text(to: &mut [u8], texts: &[u8], room: usize, back: usize, len: usize) -> usize
-    requires { ⌜ (length (now texts) ≡ textsSize) × (back ≤ slots) × (length (textIn (now texts) (slotOf room back) len) ≤ length (now to)) ⌝ }
-    ensures { λ r. ⌜ (r ≡ length (textIn (now (texts .entry)) (slotOf room back) len)) × (now (to .exit) ≡ over (textIn (now (texts .entry)) (slotOf room back) len) (now (to .entry))) ⌝ }
+    requires { ⌜ (length (now texts) ≡ textsSize) × (back ≤ slots) × (length (slotText (now texts) (slotOf room back) len) ≤ length (now to)) ⌝ }
+    ensures { λ r. ⌜ (r ≡ length (slotText (now (texts .entry)) (slotOf room back) len)) × (now (to .exit) ≡ over (slotText (now (texts .entry)) (slotOf room back) len) (now (to .entry))) ⌝ }
 {
     let size = numbers::least(len, Texts::ROOM);
     let from = slot(room, back) * Texts::ROOM;

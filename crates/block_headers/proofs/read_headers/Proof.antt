@@ -10,7 +10,7 @@ use denote.Ref.{now}
 use Rattle.packet_spec.specs.Limits.{level}
 use Rattle.packet_spec.specs.Redundancy.{Head, headers}
 use Rattle.base.specs.Arrays.{filled}
-use Rattle.block_headers.specs.Seen.{seenHead, seenHeads, noHead, seenBefore}
+use Rattle.block_headers.specs.internal.Seen.{seenHead, seenHeads, noHead, seenBefore}
 use Rattle.base.proofs.Filled.{filled-more}
 use Rattle.base.proofs.Maps.{map-set}
 use Rattle.packet_spec.proofs.Heads.{at-end, at-last-other, at-last, at-too-many, at-cut-short, at-older-other, at-one-more}

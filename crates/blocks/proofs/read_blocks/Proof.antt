@@ -11,12 +11,12 @@ use Rattle.packet.specs.declared.Refusal.{Refusal}
 use Rattle.blocks.specs.declared.Blocks.{Blocks}
 use Rattle.packet.specs.Refusal.{number}
 use Rattle.packet_spec.specs.Redundancy.{total, areText}
-use Rattle.block_headers.specs.Seen.{seenHead, seenHeads}
+use Rattle.block_headers.specs.internal.Seen.{seenHead, seenHeads}
 use Rattle.base.specs.Arrays.{filled}
 use Rattle.packet_spec.specs.Limits.{level}
 use Rattle.packet.specs.Places.{none}
-use Rattle.blocks.specs.Placing.{headPlaces}
-use Rattle.blocks.specs.Seen.{seen, refusedBlocks, placedBlocks}
+use Rattle.blocks.specs.internal.Placing.{headPlaces}
+use Rattle.blocks.specs.internal.Seen.{blocksSeen, refusedBlocks, placedBlocks}
 use Rattle.packet_spec.proofs.Order.{gives-20, gives-21}
 use Rattle.blocks.proofs.Outcomes.{bad-text, good-text}
 use Rattle.blocks.proofs.Whole.{text-placed}
@@ -76,7 +76,7 @@ returns-3 c =
     let w : q .before .before .place .result .primary ≡ a .first + total hs = ap (λ (b : Blocks). b .primary) (q .before .before .place .ensures) in
     let n : length hs ≡ a .count = length-take-le (a .count) (map seenHead (a .heads)) (omega (arith, q .before .before .before .before .pre .0, four (q .before .before .before .before), length-map (a .heads) seenHead)) in
     let t : areText hs s ≡ true = good-text (areText hs s) (sym (q .check .ensures) ∙ c .enum-told .given .1) in
-    ap seen (q .before .before .place .ensures)
+    ap blocksSeen (q .before .before .place .ensures)
     ∙ ap (λ (k : ℕ). record { number = 0; count = k; older = filled none level (headPlaces (a .first) hs); primary = a .first + total hs }) (sym n)
     ∙ text-placed (now (a .packet)) (a .first) (a .end) hs (search needs) (search needs) (omega arith) t
 

@@ -1,7 +1,7 @@
 use mathlib.Core.Path.{_∙_, ap, sym}
 use borrow.Author.Needs.{needs}
 use Rattle.receiver.specs.declared.Answer.{Answer}
-use Rattle.receiver.specs.View.{answered}
+use Rattle.receiver.specs.View.{stepAnswer}
 use Rattle.boundary.specs.Receiving.{stepNumber}
 use Rattle.boundary.proofs.number_of_step.Statement.{statement}
 use Rattle.boundary.proofs.number_of_step.Tie as tie
@@ -19,7 +19,7 @@ enum-told-2 : tie.Need-enum-told-2
 enum-told-2 c = search needs
 
 returns : tie.Need-returns
-returns c = c .number .ensures ∙ sym (ap (λ (a : Answer). stepNumber (answered a)) (c .before .before .answer .given .1))
+returns c = c .number .ensures ∙ sym (ap (λ (a : Answer). stepNumber (stepAnswer a)) (c .before .before .answer .given .1))
 
 returns-2 : tie.Need-returns-2
 returns-2 c = search needs

@@ -46,7 +46,7 @@ use Rattle.packet.specs.declared.Outcome.{Outcome}
 use Rattle.packet.specs.declared.Packet.{Packet}
 use Rattle.packet.specs.declared.Reading.{Reading}
 use Rattle.packet.specs.Refusal.{isRefused}
-use Rattle.packet.specs.Places.{sourceOf, Numbered, numbered, readOf}
+use Rattle.packet.specs.Places.{expectedSource, ReadResult, numbered, readOf}
 use Rattle.packet.proofs.Expected as E
 use Rattle.packet.proofs.Expected.Laws as E′
 use Rattle.packet.proofs.Packet as P
@@ -149,11 +149,11 @@ module _ {M : Type 1} (𝓤 : URA M) (H : Heap 𝓤) (A : Atoms 𝓤) (W : Given
   abbrev Answers : ℕ → Packet → Type 0
   Answers k g = (k ≡ readOf (expectedOf n c) t d (s .now) .number) × (g ≡ packetBehind (readOf (expectedOf n c) t d (s .now)) h)
 
-  says-read : (x : Expected) → sourceOf x ≡ expectedOf n c → (r : Reading) → numbered r ≡ readOf (sourceOf x) t d (s .now) → (k : ℕ) (g : Packet) → k ≡ numbered r .number → g ≡ packetBehind (numbered r) h → Answers k g
+  says-read : (x : Expected) → expectedSource x ≡ expectedOf n c → (r : Reading) → numbered r ≡ readOf (expectedSource x) t d (s .now) → (k : ℕ) (g : Packet) → k ≡ numbered r .number → g ≡ packetBehind (numbered r) h → Answers k g
   says-read x ex r er k g ek eg =
-      let e : _≡_ {A = Numbered} (numbered r) (readOf (expectedOf n c) t d (s .now)) = er ∙ ap (λ (y : Header.Expected). readOf y t d (s .now)) ex in (
-        ek ∙ ap (λ (y : Numbered). y .number) e,
-        eg ∙ ap (λ (y : Numbered). packetBehind y h) e,
+      let e : _≡_ {A = ReadResult} (numbered r) (readOf (expectedOf n c) t d (s .now)) = er ∙ ap (λ (y : Header.Expected). readOf y t d (s .now)) ex in (
+        ek ∙ ap (λ (y : ReadResult). y .number) e,
+        eg ∙ ap (λ (y : ReadResult). packetBehind y h) e,
       )
 
   exits : Fit → (g : Packet) (k : ℕ) → Answers k g → Known (of-uint w8) k
@@ -181,13 +181,13 @@ module _ {M : Type 1} (𝓤 : URA M) (H : Heap 𝓤) (A : Atoms 𝓤) (W : Given
         pass1 ! (init ! 12 refl (shr-slice-lawful 𝓤 H A W (named 0) κ u8 .typed s (v ∷ []) p .0)) $ pass1 ! (init ! 10 refl (tt, tt)) $ pass0 ! $
         use0 W (raw (ExpectedOf 𝓤 H A mem′ run .pre to-expected)) (goes-expected f) $
         calls-at ! fm (ExpectedOf 𝓤 H A mem′ run) known-expected-of to-expected (and-then ! (copied ! 21 refl) (and-then ! (copied ! 19 refl) (no-more !))) (λ w.
-        returned expecteds ! (‵ ftrue) (lasts expected-of.ended tt (n, (c, tt))) (λ x _. sourceOf x ≡ expectedOf n c) (id⊢ 𝓤 _) (λ x _ ex isx. drop ! $ drop ! $
+        returned expecteds ! (‵ ftrue) (lasts expected-of.ended tt (n, (c, tt))) (λ x _. expectedSource x ≡ expectedOf n c) (id⊢ 𝓤 _) (λ x _ ex isx. drop ! $ drop ! $
         land ! (from ! (stop !)) (init ! 8 refl (expecteds .typed 𝓤 H A W x isx)) $
         -- [_11; …; _0; …; obs; the borrow; its token; the packet; its token; true; true]
         move ! (27 ∷ []) $ use1 W (‵ Bytes ⊛ ‵ Bytes) (shr-slice-copy 𝓤 H A W (named 0) κ u8 .twice s (v ∷ [])) $ split ! $ move ! (0 ∷ 29 ∷ []) $ use2 W (raw (Read 𝓤 H A mem′ run .pre (to-read x))) (goes-read f x isx) $
         -- [what `read_from` asks; the packet; _11; …; _0; …; obs; the borrow; its token; true; true]
         calls-at ! fm (Read 𝓤 H A mem′ run) known-read (to-read x) (and-then ! (copied ! 10 refl) (and-then ! (copied ! 18 refl) (and-then ! (copied ! 16 refl) (and-then ! (copied ! 14 refl) (no-more !))))) (λ w₁.
-        returned readings ! (‵ (flft κ q) ⊛ ‵ ftrue) (lasts reading.ended (κ, tt) (x, (t, (d, (s, tt))))) (λ r _. numbered r ≡ readOf (sourceOf x) t d (s .now)) (id⊢ 𝓤 _) (λ r _ er is. drop ! $
+        returned readings ! (‵ (flft κ q) ⊛ ‵ ftrue) (lasts reading.ended (κ, tt) (x, (t, (d, (s, tt))))) (λ r _. numbered r ≡ readOf (expectedSource x) t d (s .now)) (id⊢ 𝓤 _) (λ r _ er is. drop ! $
         -- [the packet's token; the packet; _11; …; _0; …; obs; the borrow; its token; true; true]
         land ! (from ! (stop !)) (init ! 8 refl (readings .typed 𝓤 H A W r is)) $
         assigns ! (of-opd ! (load ! (from ! (fld ! refl (stop !))) (look-in ! 8 (sub ! 0 refl (whole !))))) (from ! (stop !)) (init ! 6 refl (outcomes .typed 𝓤 H A W (r .outcome) (known-outcome r is))) $

@@ -6,7 +6,7 @@ use borrow.Author.Needs.{needs}
 use denote.Ref.{now}
 use Rattle.packet.specs.declared.Expected.{Expected}
 use Rattle.packet_spec.specs.Header.{otherSource}
-use Rattle.packet.specs.Places.{sourceOf}
+use Rattle.packet.specs.Places.{expectedSource}
 use Rattle.header.proofs.other_source.Statement.{statement}
 use Rattle.header.proofs.other_source.Tie as tie
 
@@ -25,7 +25,7 @@ returns c = search needs
 returns-2 : tie.Need-returns-2
 returns-2 c =
     ap (λ (k : ℕ). not (eqb k (c .before .before .expected .given .0 .0))) (c .source-of .ensures)
-    ∙ ap (λ (x : Expected). otherSource (sourceOf x) (now (c .before .before .before .before .before .args .packet))) (sym (c .before .before .expected .given .1))
+    ∙ ap (λ (x : Expected). otherSource (expectedSource x) (now (c .before .before .before .before .before .args .packet))) (sym (c .before .before .expected .given .1))
 
 pub other-source-spec : {M : Type 1} → statement M
 other-source-spec =

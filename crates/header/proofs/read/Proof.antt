@@ -3,8 +3,8 @@ use mathlib.Core.Bool.{false}
 use borrow.Author.Needs.{needs}
 use denote.Ref.{now}
 use Rattle.packet_spec.specs.Header.{typesBad}
-use Rattle.packet.specs.Places.{sourceOf}
-use Rattle.header.specs.Seen.{refusedHeader, passedHeader, headerOf}
+use Rattle.packet.specs.Places.{expectedSource}
+use Rattle.header.specs.internal.Seen.{refusedHeader, passedHeader, headerOf}
 use Rattle.packet_spec.proofs.Order.{from, gives-3, past-3}
 use Rattle.layout.proofs.Told.{refused-told, passed-told, lies-told}
 use Rattle.header.proofs.read.Statement.{statement}
@@ -22,7 +22,7 @@ returns c =
     let a = c .before .before .before .before .args in
     let p = now (a .packet) in
     let x = passedHeader (a .t140) p in
-    c .refused .ensures ∙ sym (gives-3 refusedHeader (sourceOf (a .expected)) (a .t140) (a .red) p x (sym (c .before .before .types-bad .ensures) ∙ c .before .if1 .taken))
+    c .refused .ensures ∙ sym (gives-3 refusedHeader (expectedSource (a .expected)) (a .t140) (a .red) p x (sym (c .before .before .types-bad .ensures) ∙ c .before .if1 .taken))
 
 read-requires : tie.Need-read-requires
 read-requires c κs = search needs
@@ -52,7 +52,7 @@ returns-2 c =
     let a = q .before .before .before .before .args in
     let p = now (a .packet) in
     let x = passedHeader (a .t140) p in
-    let e = sourceOf (a .expected) in
+    let e = expectedSource (a .expected) in
     let k = c .before .before .outcome .given in
     c .refused2 .ensures
     ∙ sym (past-3 refusedHeader e (a .t140) (a .red) p x (types-good q) ∙ refused-told p (q .read .result) (q .read .ensures) refusedHeader (from refusedHeader e (a .t140) (a .red) p x 6) (k .0 .0) (k .1))
@@ -64,7 +64,7 @@ returns-3 c =
     let a = q .before .before .before .before .args in
     let p = now (a .packet) in
     let x = passedHeader (a .t140) p in
-    let e = sourceOf (a .expected) in
+    let e = expectedSource (a .expected) in
     c .read-fields .ensures
     ∙ sym (past-3 refusedHeader e (a .t140) (a .red) p x (types-good q) ∙ passed-told p (q .read .result) (q .read .ensures) (c .before .enum-told .given .1) refusedHeader (from refusedHeader e (a .t140) (a .red) p x 6))
 

@@ -4,8 +4,8 @@ use lib.Dec.{eqb}
 use borrow.Author.Needs.{needs}
 use denote.Ref.{now}
 use Rattle.packet_spec.specs.Header.{markerOf, payloadType, otherType, otherSource}
-use Rattle.packet.specs.Places.{sourceOf}
-use Rattle.header.specs.Seen.{refusedHeader, passedHeader}
+use Rattle.packet.specs.Places.{expectedSource}
+use Rattle.header.specs.internal.Seen.{refusedHeader, passedHeader}
 use Rattle.packet_spec.proofs.Order.{gives-15, gives-16, past-16}
 use Rattle.header.proofs.read_fields.Statement.{statement}
 use Rattle.header.proofs.read_fields.Tie as tie
@@ -21,7 +21,7 @@ returns c =
     let a = c .before .before .before .before .args in
     let p = now (a .packet) in
     c .refused .ensures
-    ∙ sym (gives-15 refusedHeader (sourceOf (a .expected)) (a .t140) (a .red) p (passedHeader (a .t140) p) (sym (c .before .before .other-type .ensures) ∙ c .before .if1 .taken))
+    ∙ sym (gives-15 refusedHeader (expectedSource (a .expected)) (a .t140) (a .red) p (passedHeader (a .t140) p) (sym (c .before .before .other-type .ensures) ∙ c .before .if1 .taken))
 
 other-source-requires : tie.Need-other-source-requires
 other-source-requires c κs = search needs
@@ -35,7 +35,7 @@ returns-2 c =
     let p = now (a .packet) in
     let o = sym (c .before .before .before .before .other-type .ensures) ∙ c .before .before .before .if1 .left in
     c .refused2 .ensures
-    ∙ sym (gives-16 refusedHeader (sourceOf (a .expected)) (a .t140) (a .red) p (passedHeader (a .t140) p) o (sym (c .before .before .other-source .ensures) ∙ c .before .if2 .taken))
+    ∙ sym (gives-16 refusedHeader (expectedSource (a .expected)) (a .t140) (a .red) p (passedHeader (a .t140) p) o (sym (c .before .before .other-source .ensures) ∙ c .before .if2 .taken))
 
 shared-slice-read-kind : tie.Need-shared-slice-read-kind
 shared-slice-read-kind c = search needs
@@ -77,7 +77,7 @@ returns-3 c =
     let a = b .args in
     let p = now (a .packet) in
     let o : otherType (a .t140) (a .red) p ≡ false = sym (t .before .before .before .other-type .ensures) ∙ t .before .before .if1 .left in
-    let q : otherSource (sourceOf (a .expected)) p ≡ false = sym (t .before .other-source .ensures) ∙ t .if2 .left in
+    let q : otherSource (expectedSource (a .expected)) p ≡ false = sym (t .before .other-source .ensures) ∙ t .if2 .left in
     (λ i. record {
       number = 0;
       plain = eqb (payloadType p) (a .t140);
@@ -88,7 +88,7 @@ returns-3 c =
       from = b .pre .1 i;
       end = b .pre .2 i;
     })
-    ∙ sym (past-16 refusedHeader (sourceOf (a .expected)) (a .t140) (a .red) p (passedHeader (a .t140) p) o q)
+    ∙ sym (past-16 refusedHeader (expectedSource (a .expected)) (a .t140) (a .red) p (passedHeader (a .t140) p) o q)
 
 pub read-fields-spec : {M : Type 1} → statement M
 read-fields-spec =

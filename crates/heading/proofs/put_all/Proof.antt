@@ -9,7 +9,7 @@ use Rattle.base.specs.Arrays.{over}
 use Rattle.base.proofs.Lent.{length-over}
 use Rattle.base.proofs.Written.{wrote-both, lent-fits}
 use Rattle.packet_spec.specs.Encoding.{markerBit, fixedHeader}
-use Rattle.heading.specs.Headers.{headsOf, secondOf, headsWith, frontWith}
+use Rattle.heading.specs.internal.Headers.{headersFor, secondOf, headsWith, frontWith}
 use Rattle.heading.proofs.Headers.{heads-plain, heads-redundant}
 use borrow.Author.Needs.{needs}
 use Rattle.heading.proofs.put_all.Statement.{statement}
@@ -30,7 +30,7 @@ abbrev heads : tie.Else1 → List ℕ
 heads c =
     let a = c .before .before .before .before .before .before .before .before .args in
     let d = a .front in
-    headsOf (d .t140 % 128) (d .clock) (d .lens) (d .ats) (a .count)
+    headersFor (d .t140 % 128) (d .clock) (d .lens) (d .ats) (a .count)
 
 redundant : (c : tie.Else1) → let a = c .before .before .before .before .before .before .before .before .args in headsWith (a .front) (a .count) ≡ heads c
 redundant c = let a = c .before .before .before .before .before .before .before .before .args in heads-redundant (a .front) (a .count) (c .if1 .left)

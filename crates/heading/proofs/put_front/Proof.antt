@@ -6,7 +6,7 @@ use borrow.Author.Needs.{needs}
 use denote.Ref.{now}
 use Rattle.base.specs.Arrays.{over}
 use Rattle.packet_spec.specs.Limits.{level}
-use Rattle.heading.specs.Headers.{frontWith, frontSize, frontOf}
+use Rattle.heading.specs.internal.Headers.{frontWith, frontSize, frontOf}
 use Rattle.heading.proofs.Headers.{front-size, placed-not, placed-over}
 use Rattle.heading.proofs.put_front.Statement.{statement}
 use Rattle.heading.proofs.put_front.Tie as tie

@@ -10,7 +10,7 @@ use lib.ListN.{length}
 use borrow.Author.Needs.{needs}
 use denote.Ref.{now}
 use Rattle.packet_spec.specs.Limits.{level}
-use Rattle.heading.specs.Headers.{headAt, headsOf}
+use Rattle.heading.specs.internal.Headers.{headAt, headersFor}
 use Rattle.heading.proofs.Turns.{Turn, turn-none, turn-past, turn-end, turn-room, turn-fits, turn-next}
 use Rattle.heading.proofs.put_heads.Statement.{statement}
 use Rattle.heading.proofs.put_heads.Tie as tie
@@ -37,24 +37,24 @@ fits c =
 
 -- none is left but the primary's
 left : (c : tie.After-loop Inv-loop μ-loop) → let a = c .before .before .before .args in
-    Begun (a .t140 ∷ []) (headsOf (a .t140) (a .clock) (a .t4) (a .t5) (a .count)) (now (a .to)) (c .before .loop .to) (c .before .loop .at)
+    Begun (a .t140 ∷ []) (headersFor (a .t140) (a .clock) (a .t4) (a .t5) (a .count)) (now (a .to)) (c .before .loop .to) (c .before .loop .at)
 left c =
     let a = c .before .before .before .args in
     let l = c .before .loop in
     turn-end (headAt (a .t140) (a .clock) (a .t4) (a .t5)) (a .t140 ∷ []) (a .count) (now (a .to)) (l .to) (l .i) (l .at) (l .inv .1) (c .loop-test .left)
 
-ends : (c : tie.After-loop Inv-loop μ-loop) → let a = c .before .before .before .args in c .before .loop .at + 1 ≡ length (headsOf (a .t140) (a .clock) (a .t4) (a .t5) (a .count))
+ends : (c : tie.After-loop Inv-loop μ-loop) → let a = c .before .before .before .args in c .before .loop .at + 1 ≡ length (headersFor (a .t140) (a .clock) (a .t4) (a .t5) (a .count))
 ends c =
     let a = c .before .before .before .args in
     let l = c .before .loop in
-    begun-end (a .t140 ∷ []) (headsOf (a .t140) (a .clock) (a .t4) (a .t5) (a .count)) (now (a .to)) (l .to) (l .at) (left c) (c .before .before .before .pre .2)
+    begun-end (a .t140 ∷ []) (headersFor (a .t140) (a .clock) (a .t4) (a .t5) (a .count)) (now (a .to)) (l .to) (l .at) (left c) (c .before .before .before .pre .2)
 
 whole : (c : tie.After-loop Inv-loop μ-loop) → let a = c .before .before .before .args in
-    set (c .before .loop .to) (c .before .loop .at) (a .t140) ≡ over (headsOf (a .t140) (a .clock) (a .t4) (a .t5) (a .count)) (now (a .to))
+    set (c .before .loop .to) (c .before .loop .at) (a .t140) ≡ over (headersFor (a .t140) (a .clock) (a .t4) (a .t5) (a .count)) (now (a .to))
 whole c =
     let a = c .before .before .before .args in
     let l = c .before .loop in
-    begun-store (a .t140 ∷ []) (headsOf (a .t140) (a .clock) (a .t4) (a .t5) (a .count)) (now (a .to)) (l .to) (l .at) (left c) (c .before .before .before .pre .2) (a .t140) refl
+    begun-store (a .t140 ∷ []) (headersFor (a .t140) (a .clock) (a .t4) (a .t5) (a .count)) (now (a .to)) (l .to) (l .at) (left c) (c .before .before .before .pre .2) (a .t140) refl
 
 loop-holds : tie.Need-loop-holds Inv-loop μ-loop
 loop-holds c =
@@ -121,7 +121,7 @@ slice-write-to c = omega (arith, room (c .before), ends c)
 same-length : tie.Need-same-length Inv-loop μ-loop
 same-length c =
     let a = c .before .before .before .args in
-    ap length (whole c) ∙ length-over (headsOf (a .t140) (a .clock) (a .t4) (a .t5) (a .count)) (now (a .to)) (c .before .before .before .pre .2)
+    ap length (whole c) ∙ length-over (headersFor (a .t140) (a .clock) (a .t4) (a .t5) (a .count)) (now (a .to)) (c .before .before .before .pre .2)
 
 returns : tie.Need-returns Inv-loop μ-loop
 returns c = whole c

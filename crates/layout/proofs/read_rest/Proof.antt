@@ -7,7 +7,7 @@ use lib.Dec.{ltb}
 use borrow.Author.Tests.{ltb-false}
 use borrow.Author.Needs.{needs}
 use denote.Ref.{now}
-use Rattle.layout.specs.Seen.{refusedLayout, passedLayout}
+use Rattle.layout.specs.internal.Seen.{refusedLayout, passedLayout}
 use Rattle.packet_spec.specs.Header.{headerEnd, paddingBad, payloadEnd}
 use Rattle.packet_spec.proofs.Order.{gives-13, gives-14, past-14}
 use Rattle.layout.proofs.Payload.{is-past, is-at}

@@ -9,7 +9,7 @@ use Rattle.base.specs.Arrays.{over}
 use Rattle.packet.specs.Refusal.{number, outcomeNumber}
 use Rattle.packet.proofs.Names.{number-positive}
 use Rattle.sender_spec.specs.Limits.{roomSize}
-use Rattle.sender_spec.specs.Answers.{Numbered}
+use Rattle.sender_spec.specs.Answers.{CallResult}
 use Rattle.sender_spec.proofs.Calls.{offer-settings, offer-5, offer-7, offer-6, offer-4, offer-joined}
 use Rattle.slots.specs.Slots.{textsSize, waitingIn}
 use Rattle.slots.proofs.Slots.{waiting-length}
@@ -22,8 +22,8 @@ use Rattle.offer.proofs.judge_in.Tie as tie
 size : (c : tie.Start) → length (now (c .args .texts)) ≡ textsSize
 size c = c .pre
 
-number-by : {r x : Numbered} → r ≡ x → x .number ≡ r .number
-number-by e = ap (λ (y : Numbered). y .number) (sym e)
+number-by : {r x : CallResult} → r ≡ x → x .number ≡ r .number
+number-by e = ap (λ (y : CallResult). y .number) (sym e)
 
 settings-outcome-requires : tie.Need-settings-outcome-requires
 settings-outcome-requires c κs = search needs

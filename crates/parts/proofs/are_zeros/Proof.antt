@@ -2,13 +2,13 @@ use Prim.Native.Nat.{_≤_, _-_}
 use mathlib.Core.Path.{_≡_, _∙_, refl, sym}
 use borrow.Author.Needs.{needs}
 use lib.ListN.{length, drop}
-use Rattle.journal_spec.specs.Contents.{zeros}
+use Rattle.journal_spec.specs.Contents.{areZeros}
 use Rattle.parts.proofs.Zeros.{zeros-not, zeros-more, zeros-end}
 use Rattle.parts.proofs.are_zeros.Statement.{statement}
 use Rattle.parts.proofs.are_zeros.Tie as tie
 
 abbrev Inv-loop : tie.InvT-loop
-Inv-loop s i₀ i = (i ≤ length s) × (zeros s ≡ zeros (drop i s))
+Inv-loop s i₀ i = (i ≤ length s) × (areZeros s ≡ areZeros (drop i s))
 
 abbrev μ-loop : tie.MeasureT-loop
 μ-loop s i₀ i = length s - i

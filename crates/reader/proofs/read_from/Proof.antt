@@ -3,26 +3,26 @@ use mathlib.Core.Path.{_≡_, _∙_, ap, sym}
 use borrow.Author.Needs.{needs}
 use denote.Ref.{now}
 use Rattle.packet.specs.Refusal.{number, outcomeNumber}
-use Rattle.packet.specs.Places.{sourceOf}
-use Rattle.header.specs.Seen as header
-use Rattle.blocks.specs.Seen as blocks
+use Rattle.packet.specs.Places.{expectedSource}
+use Rattle.header.specs.internal.Seen as header
+use Rattle.blocks.specs.internal.Seen as blocks
 use Rattle.packet.proofs.Names.{number-positive}
 use Rattle.reader.proofs.Placed.{header-refused, header-passed, blocksSeen, blocks-refused, blocks-placed}
 use Rattle.reader.proofs.read_from.Statement.{statement}
 use Rattle.reader.proofs.read_from.Tie as tie
 
 -- a header that passes, as it is seen
-passed : (c : tie.After-enum-told) → let a = c .before .before .before .before .args in header.headerOf (sourceOf (a .expected)) (a .t140) (a .red) (now (a .packet)) .number ≡ 0
-passed c = sym (ap (λ (h : header.Seen). h .number) (c .before .before .read .ensures)) ∙ ap outcomeNumber (c .enum-told .given .1)
+passed : (c : tie.After-enum-told) → let a = c .before .before .before .before .args in header.headerOf (expectedSource (a .expected)) (a .t140) (a .red) (now (a .packet)) .number ≡ 0
+passed c = sym (ap (λ (h : header.HeaderSeen). h .number) (c .before .before .read .ensures)) ∙ ap outcomeNumber (c .enum-told .given .1)
 
-seen-header : (c : tie.After-enum-told) → let a = c .before .before .before .before .args in header.seen (c .before .before .read .result) ≡ header.passedHeader (a .t140) (now (a .packet))
-seen-header c = let a = c .before .before .before .before .args in c .before .before .read .ensures ∙ header-passed (sourceOf (a .expected)) (a .t140) (a .red) (now (a .packet)) (passed c)
+seen-header : (c : tie.After-enum-told) → let a = c .before .before .before .before .args in header.headerSeen (c .before .before .read .result) ≡ header.passedHeader (a .t140) (now (a .packet))
+seen-header c = let a = c .before .before .before .before .args in c .before .before .read .ensures ∙ header-passed (expectedSource (a .expected)) (a .t140) (a .red) (now (a .packet)) (passed c)
 
 -- its blocks, as they are seen
-seen-blocks : (c : tie.After-read2) → let a = c .before .before .before .before .before .args in blocks.seen (c .read2 .result) ≡ blocksSeen (sourceOf (a .expected)) (a .t140) (a .red) (now (a .packet)) (passed (c .before))
+seen-blocks : (c : tie.After-read2) → let a = c .before .before .before .before .before .args in blocks.blocksSeen (c .read2 .result) ≡ blocksSeen (expectedSource (a .expected)) (a .t140) (a .red) (now (a .packet)) (passed (c .before))
 seen-blocks c =
     let a = c .before .before .before .before .before .args in
-    c .read2 .ensures ∙ ap (λ (h : header.Seen). blocks.blocksOf (h .plain) (a .t140) (now (a .packet)) (h .from) (h .end)) (seen-header (c .before))
+    c .read2 .ensures ∙ ap (λ (h : header.HeaderSeen). blocks.blocksSeenAt (h .plain) (a .t140) (now (a .packet)) (h .from) (h .end)) (seen-header (c .before))
 
 read-requires : tie.Need-read-requires
 read-requires c κs = search needs
@@ -38,8 +38,8 @@ returns c =
     let q = c .before .before .before .before in
     let a = q .before .before .args in
     let k = c .before .before .judged .given in
-    let n = sym (ap (λ (h : header.Seen). h .number) (q .read .ensures)) ∙ ap outcomeNumber (k .1) in
-    c .refused .ensures ∙ header-refused (sourceOf (a .expected)) (a .t140) (a .red) (now (a .packet)) (number (k .0 .0)) (number-positive (k .0 .0)) n
+    let n = sym (ap (λ (h : header.HeaderSeen). h .number) (q .read .ensures)) ∙ ap outcomeNumber (k .1) in
+    c .refused .ensures ∙ header-refused (expectedSource (a .expected)) (a .t140) (a .red) (now (a .packet)) (number (k .0 .0)) (number-positive (k .0 .0)) n
 
 enum-told : tie.Need-enum-told
 enum-told c = search needs
@@ -61,8 +61,8 @@ returns-2 c =
     let q = c .before .before .before .before in
     let a = q .before .before .before .before .before .args in
     let k = c .before .before .outcome .given in
-    let n = sym (ap (λ (b : blocks.Seen). b .number) (seen-blocks q)) ∙ ap outcomeNumber (k .1) in
-    c .refused2 .ensures ∙ blocks-refused (sourceOf (a .expected)) (a .t140) (a .red) (now (a .packet)) (passed (q .before)) (number (k .0 .0)) (number-positive (k .0 .0)) n
+    let n = sym (ap (λ (b : blocks.BlocksSeen). b .number) (seen-blocks q)) ∙ ap outcomeNumber (k .1) in
+    c .refused2 .ensures ∙ blocks-refused (expectedSource (a .expected)) (a .t140) (a .red) (now (a .packet)) (passed (q .before)) (number (k .0 .0)) (number-positive (k .0 .0)) n
 
 returns-3 : tie.Need-returns-3
 returns-3 c =
@@ -70,7 +70,7 @@ returns-3 c =
     let a = q .before .before .before .before .before .args in
     let h = seen-header (q .before) in
     let b = seen-blocks q in
-    let n = sym (ap (λ (x : blocks.Seen). x .number) b) ∙ ap outcomeNumber (c .before .enum-told2 .given .1) in
+    let n = sym (ap (λ (x : blocks.BlocksSeen). x .number) b) ∙ ap outcomeNumber (c .before .enum-told2 .given .1) in
     (λ i. record {
       number = 0;
       packet = record {
@@ -84,7 +84,7 @@ returns-3 c =
         end = h i .end;
       };
     })
-    ∙ blocks-placed (sourceOf (a .expected)) (a .t140) (a .red) (now (a .packet)) (passed (q .before)) n
+    ∙ blocks-placed (expectedSource (a .expected)) (a .t140) (a .red) (now (a .packet)) (passed (q .before)) n
 
 pub read-from-spec : {M : Type 1} → statement M
 read-from-spec =

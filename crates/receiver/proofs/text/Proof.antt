@@ -2,7 +2,7 @@ use mathlib.Core.Path.{_∙_, ap, sym}
 use borrow.Author.Needs.{needs}
 use denote.Ref.{now}
 use Rattle.receiver.specs.declared.Answer.{Answer}
-use Rattle.receiver.specs.View.{answered}
+use Rattle.receiver.specs.View.{stepAnswer}
 use Rattle.receiver_spec.specs.Step.{textGiven}
 use Rattle.receiver.proofs.text.Statement.{statement}
 use Rattle.receiver.proofs.text.Tie as tie
@@ -34,7 +34,7 @@ returns-2 c = search needs
 returns-3 : tie.Need-returns-3
 returns-3 c =
     let p = now (c .before .before .before .before .before .args .packet) in
-    c .part .ensures ∙ sym (ap (λ (a : Answer). textGiven p (answered a)) (c .before .before .answer .given .1))
+    c .part .ensures ∙ sym (ap (λ (a : Answer). textGiven p (stepAnswer a)) (c .before .before .answer .given .1))
 
 pub text-spec : {M : Type 1} → statement M
 text-spec =

@@ -5,7 +5,7 @@ use mir.Syntax.{w64}
 use mir.Facts.{toZ-ofZ}
 use borrow.Author.Needs.{needs}
 use Rattle.writer.specs.declared.Answer.{Answer}
-use Rattle.writer.specs.Draft.{answered}
+use Rattle.writer.specs.Draft.{clockAnswer}
 use Rattle.sender_boundary.specs.Calls.{codeOf}
 use Rattle.sender_boundary.proofs.code_of.Statement.{statement}
 use Rattle.sender_boundary.proofs.code_of.Tie as tie
@@ -32,15 +32,15 @@ returns : tie.Need-returns
 returns c =
     toZ-ofZ {w = w64} (record { sfits = c .minus .ok }) ∙ c .minus .ensures
     ∙ ap (λ (n : ℕ). negℤ (pos n)) (c .before .number .ensures)
-    ∙ sym (ap (λ (x : Answer). codeOf (answered x)) (c .before .before .before .answer .given .1))
+    ∙ sym (ap (λ (x : Answer). codeOf (clockAnswer x)) (c .before .before .before .answer .given .1))
 
 returns-2 : tie.Need-returns-2
-returns-2 c = sym (ap (λ (x : Answer). codeOf (answered x)) (c .enum-told .given .1))
+returns-2 c = sym (ap (λ (x : Answer). codeOf (clockAnswer x)) (c .enum-told .given .1))
 
 returns-3 : tie.Need-returns-3
 returns-3 c =
     toZ-ofZ {w = w64} (record { sfits = c .signed-of .ok }) ∙ c .signed-of .ensures
-    ∙ sym (ap (λ (x : Answer). codeOf (answered x)) (c .before .before .answer2 .given .1))
+    ∙ sym (ap (λ (x : Answer). codeOf (clockAnswer x)) (c .before .before .answer2 .given .1))
 
 pub code-of-spec : {M : Type 1} → statement M
 code-of-spec =

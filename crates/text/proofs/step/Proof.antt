@@ -3,7 +3,7 @@ use mathlib.Core.Path.{_∙_, ap, sym}
 use mathlib.Core.List.{List}
 use mathlib.Core.Option.{some}
 use borrow.Author.Needs.{needs}
-use Rattle.text_spec.specs.Utf8.{Range, next}
+use Rattle.text_spec.specs.Utf8.{Range, owedAfter}
 use Rattle.text.proofs.Owes.{owes-none, owes-some, tails-only}
 use Rattle.text_spec.proofs.Rows.{inside, below, above}
 use Rattle.text.proofs.step.Statement.{statement}
@@ -13,7 +13,7 @@ lead-requires : tie.Need-lead-requires
 lead-requires c κs = search needs
 
 returns : tie.Need-returns
-returns c = c .lead .ensures ∙ ap (λ (l : List Range). next l (c .before .before .args .byte)) (sym (owes-none (c .before .before .args .owed) (c .before .if1 .taken)))
+returns c = c .lead .ensures ∙ ap (λ (l : List Range). owedAfter l (c .before .before .args .byte)) (sym (owes-none (c .before .before .args .owed) (c .before .if1 .taken)))
 
 returns-2 : tie.Need-returns-2
 returns-2 c = rw (owes-some (c .before .before .before .args .owed) (c .before .before .if1 .left), below (c .before .before .before .args .byte) _ _ (c .if2 .taken))

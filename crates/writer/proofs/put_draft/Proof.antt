@@ -11,11 +11,11 @@ use Rattle.base.proofs.Written.{wrote-both, lent-fits}
 use Rattle.packet_spec.specs.Limits.{level}
 use Rattle.sender_spec.specs.Limits.{roomSize}
 use Rattle.sender_spec.specs.Answers.{sent}
-use Rattle.carrying.specs.Young.{youngRun, textTotal}
-use Rattle.heading.specs.Headers.{frontWith}
+use Rattle.carrying.specs.internal.Young.{youngRun, textTotal}
+use Rattle.heading.specs.internal.Headers.{frontWith}
 use Rattle.heading.proofs.Headers.{front-over}
-use Rattle.writer.specs.Draft.{answered}
-use Rattle.writer.specs.Parts.{textsOf, frontIn, packetWith, packetSize}
+use Rattle.writer.specs.Draft.{clockAnswer}
+use Rattle.writer.specs.internal.Parts.{textsOf, frontIn, packetWith, packetSize}
 use Rattle.writer.proofs.Whole.{few, front-size, size-is}
 use Rattle.writer.proofs.Answers.{by-short, by-sent, put-quiet, put-short, put-sent}
 use borrow.Author.Needs.{needs}
@@ -71,7 +71,7 @@ returns-2 c =
     let a = st .args in
     let n = r .run .result .count in
     (λ i. record {
-      answer = answered (by-short (a .draft .level) n (textTotal (take n (a .draft .lens))) (min (a .draft .len) roomSize) (s .size .result) (length (now (a .packet))) (size-of s) (c .if2 .taken) i);
+      answer = clockAnswer (by-short (a .draft .level) n (textTotal (take n (a .draft .lens))) (min (a .draft .len) roomSize) (s .size .result) (length (now (a .packet))) (size-of s) (c .if2 .taken) i);
       lent = now (a .packet);
     })
     ∙ put-short (a .draft) (now (a .texts)) (r .run .result .count) (lens-long st) (ats-long st) (st .pre) (run-is r) (now (a .packet))
@@ -175,7 +175,7 @@ returns-3 c =
     let a = st .args in
     let n = r .run .result .count in
     (λ i. record {
-      answer = answered (by-sent (a .draft .level) n (textTotal (take n (a .draft .lens))) (min (a .draft .len) roomSize) (s .size .result) (length (now (a .packet))) (size-of s) (e .if2 .left) i);
+      answer = clockAnswer (by-sent (a .draft .level) n (textTotal (take n (a .draft .lens))) (min (a .draft .len) roomSize) (s .size .result) (length (now (a .packet))) (size-of s) (e .if2 .left) i);
       lent = whole (c .before .before) i;
     })
     ∙ (λ i. record { answer = sent (size-of s i); lent = over (packetWith (a .draft) (now (a .texts)) n) (now (a .packet)) })

@@ -14,7 +14,7 @@ use Rattle.packet_spec.specs.Limits.{level}
 use Rattle.text_spec.specs.Utf8.{Range, isText}
 use Rattle.text.specs.Owed.{owes, walked}
 use Rattle.packet_spec.specs.Redundancy.{Head, total, areText}
-use Rattle.block_headers.specs.Seen.{seenHead, seenHeads, noHead}
+use Rattle.block_headers.specs.internal.Seen.{seenHead, seenHeads, noHead}
 use Rattle.base.proofs.Maps.{getD-map}
 use Rattle.text_spec.proofs.Walks.{goesOn, part-on, part-stops}
 use Rattle.text.proofs.Owes.{owes-none, owes-some}

@@ -11,9 +11,9 @@ use Rattle.packet.specs.declared.Outcome.the-variants.{Accepted}
 use Rattle.packet_spec.specs.Limits.{level}
 use Rattle.base.specs.Arrays.{filled}
 use Rattle.packet_spec.specs.Redundancy.{Head, total}
-use Rattle.block_headers.specs.Seen.{seenHead, seenHeads, noHead}
+use Rattle.block_headers.specs.internal.Seen.{seenHead, seenHeads, noHead}
 use Rattle.packet.specs.Places.{none}
-use Rattle.blocks.specs.Placing.{headPlaces, placedFrom}
+use Rattle.blocks.specs.internal.Placing.{headPlaces, placedFrom}
 use Rattle.base.proofs.Maps.{getD-map}
 use Rattle.base.proofs.Filled.{filled-more}
 use Rattle.blocks.proofs.Parts.{total-snoc, places-snoc, places-length}

@@ -36,7 +36,7 @@ use denote.Triple.Table.{entered, cited}
 use denote.Triple.Walked.{says, Stays, stay-ref, stay-none, walkOf, goes-ref, goes-none, ends-at, walked, walk-meets}
 use denote.Exit.{yes}
 use Rattle.base.proofs.Records.{Data, of-record, of-uint, Known, had, opens-whole, closes-whole, returned, copied, freed}
-use Rattle.receiver_spec.specs.Opening.{openingOf}
+use Rattle.receiver_spec.specs.Opening.{openReceiver}
 use Rattle.receiver_spec.specs.Answers.{Opening}
 use Rattle.receiver.specs.declared.Opened.{Opened}
 use Rattle.receiver.specs.View.{opening}
@@ -47,7 +47,7 @@ use Rattle.receiver.proofs.Receiver.open.Symbol as open-def
 use Rattle.receiver.proofs.Receiver.open.Symbol.{name as #receiver·Receiver·open}
 use Rattle.receiver.proofs.Receiver.open.Met as open-thm
 use Rattle.boundary.specs.declared.ReceiverRecord.{ReceiverRecord}
-use Rattle.boundary.specs.Receiving.{recordOf}
+use Rattle.boundary.specs.Receiving.{lentRecord}
 use Rattle.boundary.proofs.ReceiverRecord as R
 use Rattle.boundary.proofs.record_of.Symbol as record-of-def
 use Rattle.boundary.proofs.record_of.Symbol.{name as #boundary·record-of}
@@ -97,7 +97,7 @@ module _ {M : Type 1} (𝓤 : URA M) (H : Heap 𝓤) (A : Atoms 𝓤) (W : Given
   goes-open : Known (of-uint w8) n → Known (of-uint w8) m → ent 𝓤 (emp 𝓤) (Open 𝓤 H A mem′ run .pre to-open)
   goes-open isn ism = qed W [] ∵ nothing ! $ had (of-uint w8) ! m ism $ fjoin ! $ had (of-uint w8) ! n isn $ fjoin ! $ nothing ! $ join ! $ frame ! $ done !
 
-  exits : (g : ReceiverRecord) (k : ℕ) → (k ≡ openingOf n m .number) × (g ≡ recordOf (openingOf n m .receiver)) → Known (of-uint w8) k
+  exits : (g : ReceiverRecord) (k : ℕ) → (k ≡ openReceiver n m .number) × (g ≡ lentRecord (openReceiver n m .receiver)) → Known (of-uint w8) k
       → ent 𝓤 (⋆ 𝓤 H A (‵ (fobs γ (R.the-row .coded .code g)) ∷ ‵ (fbor κ (Body (mem R.the-row) b o γ)) ∷ ‵ (flft κ q) ∷ ‵ Types ∷ [])) (Post (vint w8 k))
   exits g k e is =
       qed W (‵ (fobs γ (R.the-row .coded .code g)) ∷ ‵ (fbor κ (Body (mem R.the-row) b o γ)) ∷ ‵ (flft κ q) ∷ ‵ Types ∷ []) ∵
@@ -114,7 +114,7 @@ module _ {M : Type 1} (𝓤 : URA M) (H : Heap 𝓤) (A : Atoms 𝓤) (W : Given
         pass1 ! (init ! 8 refl (tt, tt)) $ pass1 ! (init ! 6 refl (tt, record { fits = isn .1 })) $ pass1 ! (init ! 4 refl (tt, record { fits = ism .1 })) $ pass0 ! $
         use0 W (raw (Open 𝓤 H A mem′ run .pre to-open)) (goes-open isn ism) $
         calls-at ! fm (Open 𝓤 H A mem′ run) known-open to-open (and-then ! (copied ! 7 refl) (and-then ! (copied ! 5 refl) (no-more !))) (λ w.
-        returned answers ! (‵ ftrue) (lasts receiver-open.ended tt (n, (m, tt))) (λ r _. opening r ≡ openingOf n m) (id⊢ 𝓤 _) (λ r _ e is. drop ! $ drop ! $
+        returned answers ! (‵ ftrue) (lasts receiver-open.ended tt (n, (m, tt))) (λ r _. opening r ≡ openReceiver n m) (id⊢ 𝓤 _) (λ r _ e is. drop ! $ drop ! $
         land ! (from ! (stop !)) (init ! 2 refl (answers .typed 𝓤 H A W r is)) $
         -- [_5; …; _0; …; obs; the borrow; the token; what the types own; true]
         recorded ! mem′ run fm known-record-of (r .receiver) (known-receiver r is) (and-then ! (load ! (from ! (fld ! refl (stop !))) (look-in ! 3 (sub ! 1 refl (whole !)))) (no-more !)) (λ g eg isg.
@@ -127,7 +127,7 @@ module _ {M : Type 1} (𝓤 : URA M) (H : Heap 𝓤) (A : Atoms 𝓤) (W : Given
         numbers ! mem′ run fm known-number-of (r .outcome) (known-outcome r is) (and-then ! (load ! (from ! (fld ! refl (stop !))) (look-in ! 6 (sub ! 0 refl (whole !)))) (no-more !)) (λ k ek isk.
         land ! (from ! (stop !)) (init ! 13 refl (of-uint w8 .typed 𝓤 H A W k isk)) $
         returns ! (look ! 13 refl) $ freed ! 13 refl refl $ freed ! 11 refl refl $ freed ! 9 refl refl $ freed ! 7 refl refl $ freed ! 5 refl refl $ freed ! 3 refl refl $ free0 ! $
-        keep ! (0 ∷ 1 ∷ 2 ∷ 3 ∷ []) $ by ! (exits g k (ek ∙ ap (λ (y : Opening). y .number) e, eg ∙ ap (λ (y : Opening). recordOf (y .receiver)) e) isk))))))))))))
+        keep ! (0 ∷ 1 ∷ 2 ∷ 3 ∷ []) $ by ! (exits g k (ek ∙ ap (λ (y : Opening). y .number) e, eg ∙ ap (λ (y : Opening). lentRecord (y .receiver)) e) isk))))))))))))
 
 meets : {M : Type 1} (𝓤 : URA M) (H : Heap 𝓤) (A : Atoms 𝓤) (W : Given 𝓤 H A) (mem′ : Memory → SProp 𝓤) (run : Routine → Fun 𝓤) (𝓣 : Tables 𝓤 H) → Triple 𝓤 (𝓣 .C #receiver·Receiver·open) (Open 𝓤 H A mem′ run) → Triple 𝓤 (𝓣 .C #boundary·record-of) (RecordOf 𝓤 H A mem′ run) → Triple 𝓤 (𝓣 .C #boundary·number-of) (NumberOf 𝓤 H A mem′ run)
     → Meets 𝓤 H A this.signature (WpFn 𝓤 H (𝓣 .C) (𝓣 .Λ) code.function) (this.spec 𝓤 H A mem′ run)

@@ -45,14 +45,14 @@ use Rattle.receiver_spec.specs.Answers as Stepping
 use Rattle.receiver_spec.specs.Step.{stepOf}
 use Rattle.receiver.specs.declared.Answer.{Answer}
 use Rattle.receiver.specs.declared.Advanced.{Advanced}
-use Rattle.receiver.specs.View.{receiverOf, answered, advanced}
+use Rattle.receiver.specs.View.{receiverOf, stepAnswer, advanced}
 use Rattle.receiver.proofs.Answer as N
 use Rattle.receiver.proofs.Answer.Laws as N′
 use Rattle.receiver.proofs.Advanced as S
 use Rattle.receiver.proofs.Advanced.Laws as S′
 use Rattle.boundary.specs.declared.ReceiverRecord.{ReceiverRecord}
 use Rattle.boundary.specs.declared.Step.{Step}
-use Rattle.boundary.specs.Receiving.{heldIn, recordOf, stepNumber, stepRecord, stepBehind, recordBehind}
+use Rattle.boundary.specs.Receiving.{heldIn, lentRecord, stepNumber, stepRecord, stepBehind, receiverBehind}
 use Rattle.receiver_spec.specs.Kinds.{wasRefused, wasLate}
 use Rattle.boundary.proofs.Behind.{step-stays, step-told, refused-stays, late-stays, moves-on}
 use Rattle.boundary.proofs.ReceiverRecord as R
@@ -127,11 +127,11 @@ module _ {M : Type 1} (𝓤 : URA M) (H : Heap 𝓤) (A : Atoms 𝓤) (mem′ : 
 
 -- what the step says of its number and of the two records, from what `advance` says
 abbrev Steps : ReceiverRecord → List ℕ → Step → ℕ → ReceiverRecord → Step → Type 0
-Steps h p z k g t = (k ≡ stepNumber (stepOf (heldIn h) p .answer)) × (g ≡ recordBehind (stepOf (heldIn h) p) h) × (t ≡ stepBehind (stepOf (heldIn h) p .answer) z)
+Steps h p z k g t = (k ≡ stepNumber (stepOf (heldIn h) p .answer)) × (g ≡ receiverBehind (stepOf (heldIn h) p) h) × (t ≡ stepBehind (stepOf (heldIn h) p .answer) z)
 
 says-step : (h : ReceiverRecord) (p : List ℕ) (z : Step) (r : Advanced) → advanced r ≡ stepOf (heldIn h) p → (k : ℕ) (g : ReceiverRecord) (t : Step)
-    → k ≡ stepNumber (answered (r .answer)) → g ≡ recordBehind (advanced r) h → t ≡ stepBehind (answered (r .answer)) z → Steps h p z k g t
-says-step h p z r e k g t ek eg et = (ek ∙ ap (λ (y : Stepping.Step). stepNumber (y .answer)) e, eg ∙ ap (λ (y : Stepping.Step). recordBehind y h) e, et ∙ ap (λ (y : Stepping.Step). stepBehind (y .answer) z) e)
+    → k ≡ stepNumber (stepAnswer (r .answer)) → g ≡ receiverBehind (advanced r) h → t ≡ stepBehind (stepAnswer (r .answer)) z → Steps h p z k g t
+says-step h p z r e k g t ek eg et = (ek ∙ ap (λ (y : Stepping.Step). stepNumber (y .answer)) e, eg ∙ ap (λ (y : Stepping.Step). receiverBehind y h) e, et ∙ ap (λ (y : Stepping.Step). stepBehind (y .answer) z) e)
 
 module _ {M : Type 1} (𝓤 : URA M) (H : Heap 𝓤) (A : Atoms 𝓤) (W : Given 𝓤 H A) (mem′ : Memory → SProp 𝓤) (run : Routine → Fun 𝓤) (κ κ₁ κ₂ : Lft) (q q₁ q₂ : Share) (b o : ℕ) (γ : GName) (h : ReceiverRecord) (s : RefT (List ℕ)) (b₂ o₂ : ℕ) (γ₂ : GName) (z : Step) where
   abbrev v : Val
@@ -217,11 +217,11 @@ module _ {M : Type 1} (𝓤 : URA M) (H : Heap 𝓤) (A : Atoms 𝓤) (W : Given
         assigns ! (of-opd ! (load ! (from ! (fld ! refl (stop !))) (look-in ! 18 (sub ! 1 refl (whole !))))) (from ! (stop !)) (init ! 16 refl (answers .typed 𝓤 H A W (r .answer) (known-answer r is))) $
         use0 W (raw (NumberOfStep 𝓤 H A mem′ run .pre (to-number (r .answer)))) (goes-number (r .answer) (known-answer r is)) $
         calls-at ! fm (NumberOfStep 𝓤 H A mem′ run) known-number (to-number (r .answer)) (and-then ! (copied ! 17 refl) (no-more !)) (λ w₁.
-        returned (of-uint w8) ! (‵ ftrue) (lasts number-of-step.ended tt (r .answer, tt)) (λ k _. k ≡ stepNumber (answered (r .answer))) (id⊢ 𝓤 _) (λ k _ ek isk. drop ! $ drop ! $
+        returned (of-uint w8) ! (‵ ftrue) (lasts number-of-step.ended tt (r .answer, tt)) (λ k _. k ≡ stepNumber (stepAnswer (r .answer))) (id⊢ 𝓤 _) (λ k _ ek isk. drop ! $ drop ! $
         land ! (from ! (stop !)) (init ! 14 refl (of-uint w8 .typed 𝓤 H A W k isk)) $
         use0 W (raw (IsRefused 𝓤 H A mem′ run .pre (to-refused (r .answer)))) (goes-refused (r .answer) (known-answer r is)) $
         calls-at ! fm (IsRefused 𝓤 H A mem′ run) known-is-refused (to-refused (r .answer)) (and-then ! (copied ! 17 refl) (no-more !)) (λ w₂.
-        returned bools ! (‵ ftrue) (lasts is-refused.ended tt (r .answer, tt)) (λ y _. y ≡ wasRefused (answered (r .answer))) (id⊢ 𝓤 _) (λ y _ ey isy. drop ! $ drop ! $
+        returned bools ! (‵ ftrue) (lasts is-refused.ended tt (r .answer, tt)) (λ y _. y ≡ wasRefused (stepAnswer (r .answer))) (id⊢ 𝓤 _) (λ y _ ey isy. drop ! $ drop ! $
         land ! (from ! (stop !)) (init ! 12 refl (bools .typed 𝓤 H A W y isy)) $
         leaves-if ! (copied ! 12 refl) (λ held.
         -- refused: nothing is stored
@@ -230,11 +230,11 @@ module _ {M : Type 1} (𝓤 : URA M) (H : Heap 𝓤) (A : Atoms 𝓤) (W : Given
         assigns ! (of-opd ! (copied ! 13 refl)) (from ! (stop !)) (init ! 27 refl (of-uint w8 .typed 𝓤 H A W k isk)) $
         returns-within ! Post refl (look ! 27 refl) $ freed ! 27 refl refl $ freed ! 25 refl refl $ freed ! 23 refl refl $ freed ! 21 refl refl $ freed ! 19 refl refl $ freed ! 17 refl refl $ freed ! 15 refl refl $ freed ! 13 refl refl $ freed ! 11 refl refl $ unused ! 9 refl refl $ unused ! 7 refl refl $ unused ! 5 refl refl $ free0 ! $
         keep ! (0 ∷ 1 ∷ 2 ∷ 3 ∷ 4 ∷ 5 ∷ 6 ∷ 7 ∷ []) $
-        by ! (exits h z k (says-step h (s .now) z r e k h z ek (sym (refused-stays (receiverOf (r .receiver)) h (answered (r .answer)) (subst Holds ey held))) (sym (step-stays z (answered (r .answer)) (subst Holds ey held)))) isk))
+        by ! (exits h z k (says-step h (s .now) z r e k h z ek (sym (refused-stays (receiverOf (r .receiver)) h (stepAnswer (r .answer)) (subst Holds ey held))) (sym (step-stays z (stepAnswer (r .answer)) (subst Holds ey held)))) isk))
         (λ failed.
         use0 W (raw (StepOf 𝓤 H A mem′ run .pre (to-step (r .answer)))) (goes-step (r .answer) (known-answer r is)) $
         calls-at ! fm (StepOf 𝓤 H A mem′ run) known-step-of (to-step (r .answer)) (and-then ! (copied ! 17 refl) (no-more !)) (λ w₃.
-        returned steps ! (‵ ftrue) (lasts step-of.ended tt (r .answer, tt)) (λ t _. t ≡ stepRecord (answered (r .answer))) (id⊢ 𝓤 _) (λ t _ et ist. drop ! $ drop ! $
+        returned steps ! (‵ ftrue) (lasts step-of.ended tt (r .answer, tt)) (λ t _. t ≡ stepRecord (stepAnswer (r .answer))) (id⊢ 𝓤 _) (λ t _ et ist. drop ! $ drop ! $
         land ! (from ! (stop !)) (init ! 10 refl (steps .typed 𝓤 H A W t ist)) $
         move ! (30 ∷ 31 ∷ 32 ∷ []) $ opens-whole steps ! tt z b₂ o₂ (λ _.
         -- [the step's cell; the open borrow; obs; auth; the packet's token; the packet; the receiver's cell; the open borrow; obs; auth; _11; …; _0; …; true; true]
@@ -243,7 +243,7 @@ module _ {M : Type 1} (𝓤 : URA M) (H : Heap 𝓤) (A : Atoms 𝓤) (W : Given
         -- [the step's obs, borrow and token; the packet's token; the packet; the receiver's cell; the open borrow; obs; auth; _11; …; _0; …; true; true]
         use0 W (raw (IsLate 𝓤 H A mem′ run .pre (to-late (r .answer)))) (goes-late (r .answer) (known-answer r is)) $
         calls-at ! fm (IsLate 𝓤 H A mem′ run) known-is-late (to-late (r .answer)) (and-then ! (copied ! 20 refl) (no-more !)) (λ w₄.
-        returned bools ! (‵ ftrue) (lasts is-late.ended tt (r .answer, tt)) (λ y′ _. y′ ≡ wasLate (answered (r .answer))) (id⊢ 𝓤 _) (λ y′ _ ey′ isy′. drop ! $ drop ! $
+        returned bools ! (‵ ftrue) (lasts is-late.ended tt (r .answer, tt)) (λ y′ _. y′ ≡ wasLate (stepAnswer (r .answer))) (id⊢ 𝓤 _) (λ y′ _ ey′ isy′. drop ! $ drop ! $
         land ! (from ! (stop !)) (init ! 11 refl (bools .typed 𝓤 H A W y′ isy′)) $
         leaves-if ! (copied ! 11 refl) (λ behind.
         -- late: the receiver's record stays
@@ -252,7 +252,7 @@ module _ {M : Type 1} (𝓤 : URA M) (H : Heap 𝓤) (A : Atoms 𝓤) (W : Given
         assigns ! (of-opd ! (copied ! 16 refl)) (from ! (stop !)) (init ! 30 refl (of-uint w8 .typed 𝓤 H A W k isk)) $
         returns-within ! Post refl (look ! 30 refl) $ freed ! 30 refl refl $ freed ! 28 refl refl $ freed ! 26 refl refl $ freed ! 24 refl refl $ freed ! 22 refl refl $ freed ! 20 refl refl $ freed ! 18 refl refl $ freed ! 16 refl refl $ freed ! 14 refl refl $ freed ! 12 refl refl $ freed ! 10 refl refl $ unused ! 8 refl refl $ free0 ! $
         keep ! (0 ∷ 1 ∷ 2 ∷ 6 ∷ 7 ∷ 3 ∷ 4 ∷ 5 ∷ []) $
-        by ! (exits h t k (says-step h (s .now) z r e k h t ek (sym (late-stays (receiverOf (r .receiver)) h (answered (r .answer)) (subst Holds ey′ behind))) (et ∙ sym (step-told z (answered (r .answer)) (subst (λ (i : Bool). Holds (not i)) ey failed)))) isk))
+        by ! (exits h t k (says-step h (s .now) z r e k h t ek (sym (late-stays (receiverOf (r .receiver)) h (stepAnswer (r .answer)) (subst Holds ey′ behind))) (et ∙ sym (step-told z (stepAnswer (r .answer)) (subst (λ (i : Bool). Holds (not i)) ey failed)))) isk))
         (λ onward.
         -- forward
         recorded ! mem′ run fm known-record-of (r .receiver) (known-receiver r is) (and-then ! (load ! (from ! (fld ! refl (stop !))) (look-in ! 22 (sub ! 0 refl (whole !)))) (no-more !)) (λ g eg isg.
@@ -262,7 +262,7 @@ module _ {M : Type 1} (𝓤 : URA M) (H : Heap 𝓤) (A : Atoms 𝓤) (W : Given
         assigns ! (of-opd ! (copied ! 16 refl)) (from ! (stop !)) (init ! 30 refl (of-uint w8 .typed 𝓤 H A W k isk)) $
         returns ! (look ! 30 refl) $ freed ! 30 refl refl $ freed ! 28 refl refl $ freed ! 26 refl refl $ freed ! 24 refl refl $ freed ! 22 refl refl $ freed ! 20 refl refl $ freed ! 18 refl refl $ freed ! 16 refl refl $ freed ! 14 refl refl $ freed ! 12 refl refl $ freed ! 10 refl refl $ freed ! 8 refl refl $ free0 ! $
         keep ! (0 ∷ 1 ∷ 2 ∷ 6 ∷ 7 ∷ 3 ∷ 4 ∷ 5 ∷ []) $
-        by ! (exits g t k (says-step h (s .now) z r e k g t ek (eg ∙ sym (moves-on (receiverOf (r .receiver)) h (answered (r .answer)) (subst (λ (i : Bool). Holds (not i)) ey failed) (subst (λ (i : Bool). Holds (not i)) ey′ onward))) (et ∙ sym (step-told z (answered (r .answer)) (subst (λ (i : Bool). Holds (not i)) ey failed)))) isk))))))))))))))))))))))))))))
+        by ! (exits g t k (says-step h (s .now) z r e k g t ek (eg ∙ sym (moves-on (receiverOf (r .receiver)) h (stepAnswer (r .answer)) (subst (λ (i : Bool). Holds (not i)) ey failed) (subst (λ (i : Bool). Holds (not i)) ey′ onward))) (et ∙ sym (step-told z (stepAnswer (r .answer)) (subst (λ (i : Bool). Holds (not i)) ey failed)))) isk))))))))))))))))))))))))))))
 
 meets : {M : Type 1} (𝓤 : URA M) (H : Heap 𝓤) (A : Atoms 𝓤) (W : Given 𝓤 H A) (mem′ : Memory → SProp 𝓤) (run : Routine → Fun 𝓤) (𝓣 : Tables 𝓤 H) → Triple 𝓤 (𝓣 .C #boundary·advance) (Advance 𝓤 H A mem′ run) → Triple 𝓤 (𝓣 .C #boundary·number-of-step) (NumberOfStep 𝓤 H A mem′ run) → Triple 𝓤 (𝓣 .C #boundary·is-refused) (IsRefused 𝓤 H A mem′ run) → Triple 𝓤 (𝓣 .C #boundary·is-late) (IsLate 𝓤 H A mem′ run) → Triple 𝓤 (𝓣 .C #boundary·step-of) (StepOf 𝓤 H A mem′ run) → Triple 𝓤 (𝓣 .C #boundary·record-of) (RecordOf 𝓤 H A mem′ run)
     → Meets 𝓤 H A this.signature (WpFn 𝓤 H (𝓣 .C) (𝓣 .Λ) code.function) (this.spec 𝓤 H A mem′ run)

@@ -41,7 +41,7 @@ use Rattle.base.proofs.Records.{Data, of-enum, of-uint, of-sint, Known, had, re
 use Rattle.slots.specs.Slots.{textsSize}
 use Rattle.sender.specs.declared.Sender.{Sender}
 use Rattle.writer.specs.declared.Answer.{Answer}
-use Rattle.writer.specs.Draft.{answered}
+use Rattle.writer.specs.Draft.{clockAnswer}
 use Rattle.sender.specs.Clocking.{Clocks}
 use Rattle.writer.proofs.Answer as N
 use Rattle.writer.proofs.Answer.Laws as N′
@@ -50,7 +50,7 @@ use Rattle.sender.proofs.Sender.clock as clock
 use Rattle.sender.proofs.Sender.clock.Symbol as clock-def
 use Rattle.sender.proofs.Sender.clock.Symbol.{name as #sender·Sender·clock}
 use Rattle.sender.proofs.Sender.clock.Met as clock-thm
-use Rattle.sender_boundary.specs.Calls.{codeOf, Clocking}
+use Rattle.sender_boundary.specs.Calls.{codeOf, ClocksIn}
 use Rattle.sender_boundary.proofs.Codes.{code-exact}
 use Rattle.sender_boundary.proofs.code_of as code-of
 use Rattle.sender_boundary.proofs.code_of.Symbol as code-of-def
@@ -123,7 +123,7 @@ module _ {M : Type 1} (𝓤 : URA M) (H : Heap 𝓤) (A : Atoms 𝓤) (W : Given
   goes-code-of : (r : Answer) → Known answers r → ent 𝓤 (emp 𝓤) (CodeOf 𝓤 H A mem run .pre (to-code-of r))
   goes-code-of r is = qed W [] ∵ nothing ! $ had answers ! r is $ fjoin ! $ nothing ! $ join ! $ frame ! $ done !
 
-  exits : t < 2 ^ 64 → (s' : Sender) (zs : List ℕ) (n : ℤ) → Clocking (y .now) (x .now) t (p .now) n s' zs → length zs ≡ length (p .now) → Known codes n
+  exits : t < 2 ^ 64 → (s' : Sender) (zs : List ℕ) (n : ℤ) → ClocksIn (y .now) (x .now) t (p .now) n s' zs → length zs ≡ length (p .now) → Known codes n
       → ent 𝓤 (⋆ 𝓤 H A (‵ (finally u8 (p .name) zs) ∷ ‵ (fres (y .name) (S.the-row .coded .code s')) ∷ (‵ (flft κ q) ⊛ ‵ (flft κ₁ q₁) ⊛ ‵ (flft κ₂ q₂) ⊛ ‵ ftrue) ∷ ‵ Texts ∷ [])) (Post (codes .val n))
   exits fits s' zs n e l is =
       qed W (‵ (finally u8 (p .name) zs) ∷ ‵ (fres (y .name) (S.the-row .coded .code s')) ∷ (‵ (flft κ q) ⊛ ‵ (flft κ₁ q₁) ⊛ ‵ (flft κ₂ q₂) ⊛ ‵ ftrue) ∷ ‵ Texts ∷ []) ∵
@@ -154,7 +154,7 @@ module _ {M : Type 1} (𝓤 : URA M) (H : Heap 𝓤) (A : Atoms 𝓤) (W : Given
         land ! (from ! (stop !)) (init ! 10 refl (answers .typed 𝓤 H A W r is)) $
         use0 W (raw (CodeOf 𝓤 H A mem run .pre (to-code-of r))) (goes-code-of r is) $
         calls-at ! fm (CodeOf 𝓤 H A mem run) known-code-of (to-code-of r) (and-then ! (copied ! 11 refl) (no-more !)) (λ w₁.
-        returned codes ! (‵ ftrue) (lasts code-of.ended tt (r, tt)) (λ n _. n ≡ codeOf (answered r)) (id⊢ 𝓤 _) (λ n _ en ok. drop ! $ drop ! $
+        returned codes ! (‵ ftrue) (lasts code-of.ended tt (r, tt)) (λ n _. n ≡ codeOf (clockAnswer r)) (id⊢ 𝓤 _) (λ n _ en ok. drop ! $ drop ! $
         land ! (from ! (stop !)) (init ! 20 refl (codes .typed 𝓤 H A W n ok)) $
         returns ! (look ! 20 refl) $ freed ! 20 refl refl $ freed ! 18 refl refl $ freed ! 16 refl refl $ freed ! 14 refl refl $ freed ! 12 refl refl $ freed ! 10 refl refl $ freed ! 8 refl refl $ freed ! 6 refl refl $ freed ! 4 refl refl $ free0 ! $
         keep ! (0 ∷ 1 ∷ 2 ∷ 3 ∷ []) $ by ! (exits fits (zs .0) (zs .1 .1 .1 .0) n

@@ -45,7 +45,7 @@ use Rattle.sender.proofs.Sender.offer as offer
 use Rattle.sender.proofs.Sender.offer.Symbol as offer-def
 use Rattle.sender.proofs.Sender.offer.Symbol.{name as #sender·Sender·offer}
 use Rattle.sender.proofs.Sender.offer.Met as offer-thm
-use Rattle.sender_boundary.specs.Calls.{Offering}
+use Rattle.sender_boundary.specs.Calls.{OffersIn}
 use Rattle.boundary.proofs.number_of.Symbol as number-of-def
 use Rattle.boundary.proofs.number_of.Symbol.{name as #boundary·number-of}
 use Rattle.boundary.proofs.number_of.Met as number-of-thm
@@ -103,7 +103,7 @@ module _ {M : Type 1} (𝓤 : URA M) (H : Heap 𝓤) (A : Atoms 𝓤) (W : Given
       move ! (1 ∷ []) $ split ! $ move ! (1 ∷ []) $ split ! $ move ! (1 ∷ []) $ split ! $ move ! (2 ∷ 1 ∷ []) $ join ! $ move ! (1 ∷ 0 ∷ []) $ join ! $ move ! (1 ∷ 0 ∷ []) $ join ! $
       join ! $ frame ! $ done !
 
-  exits : t < 2 ^ 64 → (s' : Sender) (zs : List ℕ) (n : ℕ) → Offering (y .now) (x .now) t (s .now) n s' zs → Known (of-uint w8) n
+  exits : t < 2 ^ 64 → (s' : Sender) (zs : List ℕ) (n : ℕ) → OffersIn (y .now) (x .now) t (s .now) n s' zs → Known (of-uint w8) n
       → ent 𝓤 (⋆ 𝓤 H A (‵ (fres (x .name) (Lent .coded .code zs)) ∷ ‵ (fres (y .name) (S.the-row .coded .code s')) ∷ (‵ (flft κ q) ⊛ ‵ (flft κ₂ q₂) ⊛ ‵ (flft κ₁ q₁) ⊛ ‵ ftrue) ∷ ‵ Text ∷ [])) (Post (vint w8 n))
   exits fits s' zs n e is =
       qed W (‵ (fres (x .name) (Lent .coded .code zs)) ∷ ‵ (fres (y .name) (S.the-row .coded .code s')) ∷ (‵ (flft κ q) ⊛ ‵ (flft κ₂ q₂) ⊛ ‵ (flft κ₁ q₁) ⊛ ‵ ftrue) ∷ ‵ Text ∷ []) ∵

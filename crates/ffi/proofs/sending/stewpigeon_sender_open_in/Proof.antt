@@ -48,7 +48,7 @@ use Rattle.sender.proofs.Sender as S
 use Rattle.sender.proofs.Sender.Laws as S′
 use Rattle.sender.proofs.Opened as R
 use Rattle.sender.proofs.Opened.Laws as R′
-use Rattle.sender_boundary.specs.Calls.{settingsOf, Opening}
+use Rattle.sender_boundary.specs.Calls.{settingsFrom, OpensIn}
 use Rattle.boundary.proofs.number_of.Symbol as number-of-def
 use Rattle.boundary.proofs.number_of.Symbol.{name as #boundary·number-of}
 use Rattle.boundary.proofs.number_of.Met as number-of-thm
@@ -137,7 +137,7 @@ module _ {M : Type 1} (𝓤 : URA M) (H : Heap 𝓤) (A : Atoms 𝓤) (W : Given
       had (of-uint w16) ! (x .sequence) (f .1 .1 .1 .1 .0) $ fjoin ! $ had (of-uint w8) ! (x .red) (f .1 .1 .1 .0) $ fjoin ! $ had (of-uint w8) ! (x .t140) (f .1 .1 .0) $ fjoin ! $
       had (of-uint w64) ! (x .buffering) (f .1 .0) $ fjoin ! $ had (of-uint w64) ! (x .level) (f .0) $ fjoin ! $ move ! (1 ∷ 0 ∷ []) $ fjoin ! $ move ! (1 ∷ 0 ∷ []) $ join ! $ frame ! $ done !
 
-  exits : (s' : Sender) (zs : List ℕ) (n : ℕ) → Opening x n s' zs → Known (of-uint w8) n
+  exits : (s' : Sender) (zs : List ℕ) (n : ℕ) → OpensIn x n s' zs → Known (of-uint w8) n
       → ent 𝓤 (⋆ 𝓤 H A (‵ (fobs γ (S.the-row .coded .code s')) ∷ ‵ (fbor κ (Body (mem S.the-row) b o γ)) ∷ ‵ (flft κ q) ∷ ‵ (fres (z .name) (Lent .coded .code zs)) ∷ (‵ (flft κ₁ q₁) ⊛ ‵ ftrue) ∷ ‵ Held-numbers ∷ [])) (Post (vint w8 n))
   exits s' zs n e is =
       qed W (‵ (fobs γ (S.the-row .coded .code s')) ∷ ‵ (fbor κ (Body (mem S.the-row) b o γ)) ∷ ‵ (flft κ q) ∷ ‵ (fres (z .name) (Lent .coded .code zs)) ∷ (‵ (flft κ₁ q₁) ⊛ ‵ ftrue) ∷ ‵ Held-numbers ∷ []) ∵
@@ -191,7 +191,7 @@ meets 𝓤 H A W mem′ run 𝓣 known-open known-number-of =
     (λ κs. (ptr-vals, (ptr-vals, (uint-vals w64, (uint-vals w64, (uint-vals w8, (uint-vals w8, (uint-vals w16, (uint-vals w32, (uint-vals w32, tt))))))))))
     (λ κs. (mut-tells (named 0) (κs .0) S.the-row, (mut-tells (named 1) (κs .1 .0) Lent, (uint-tells w64, (uint-tells w64, (uint-tells w8, (uint-tells w8, (uint-tells w16, (uint-tells w32, (uint-tells w32, tt))))))))))
     (λ κs qs bounds a g are. via 𝓤 _ (fst∗ 𝓤 _ (emp 𝓤))
-    (walk 𝓤 H A W mem′ run (κs .0) (κs .1 .0) (qs .0) (qs .1 .0) (a .0 .ptr .0) (a .0 .ptr .1) (a .0 .name) (a .0 .now) (a .1 .0) (settingsOf (a .1 .1 .0) (a .1 .1 .1 .0) (a .1 .1 .1 .1 .0) (a .1 .1 .1 .1 .1 .0) (a .1 .1 .1 .1 .1 .1 .0) (a .1 .1 .1 .1 .1 .1 .1 .0) (a .1 .1 .1 .1 .1 .1 .1 .1 .0))
+    (walk 𝓤 H A W mem′ run (κs .0) (κs .1 .0) (qs .0) (qs .1 .0) (a .0 .ptr .0) (a .0 .ptr .1) (a .0 .name) (a .0 .now) (a .1 .0) (settingsFrom (a .1 .1 .0) (a .1 .1 .1 .0) (a .1 .1 .1 .1 .0) (a .1 .1 .1 .1 .1 .0) (a .1 .1 .1 .1 .1 .1 .0) (a .1 .1 .1 .1 .1 .1 .1 .0) (a .1 .1 .1 .1 .1 .1 .1 .1 .0))
     (𝓣 .C) (𝓣 .Λ) (fmOf 𝓤 H (W .laws) 𝓣) known-open known-number-of (are .1 .1))))
 
 pub stewpigeon-sender-open-in-spec : {M : Type 1} → stated.statement M

@@ -1,7 +1,7 @@
 use mathlib.Core.Path.{_∙_, ap}
 use Rattle.parts.specs.declared.Part.{Part}
 use Rattle.reading.specs.Reading.{with}
-use Rattle.reading.specs.Bytes.{begunBy}
+use Rattle.reading.specs.internal.Bytes.{begunBy}
 use Rattle.reading.proofs.Outcomes.{by-part, other}
 use borrow.Author.Needs.{needs}
 use Rattle.reading.proofs.Reader.next.Statement.{statement}

@@ -1,6 +1,6 @@
 use mathlib.Core.Path.{_∙_, ap}
 use Prim.Native.Nat.{ℕ}
-use Rattle.reading.specs.Bytes.{timeOf}
+use Rattle.reading.specs.internal.Bytes.{timeOf}
 use Rattle.reading.proofs.Outcomes.{time-under-way, time-past}
 use borrow.Author.Needs.{needs}
 use Rattle.reading.proofs.Reader.time.Statement.{statement}

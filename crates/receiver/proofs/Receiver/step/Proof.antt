@@ -44,7 +44,7 @@ use Rattle.receiver.specs.declared.Answer.{Answer}
 use Rattle.receiver.specs.declared.Stepped.{Stepped}
 use Rattle.receiver_spec.specs.Step.{stepOf, textGiven}
 use Rattle.receiver_spec.specs.Answers.{Step}
-use Rattle.receiver.specs.View.{receiverOf, answered, advanced, handed, handedOf}
+use Rattle.receiver.specs.View.{receiverOf, stepAnswer, advanced, handed, handedOf}
 use Rattle.receiver.proofs.Advancing.{mT, mN, mL, part-T, part-N, Own, Advance, advance-of, to-advance, goes-advance}
 use Rattle.receiver.proofs.Receiver as T
 use Rattle.receiver.proofs.Receiver.Laws as T′
@@ -74,15 +74,15 @@ abbrev made : RefT (List ℕ) → Advanced → Stepped
 made t r = record { receiver = r .receiver; answer = r .answer; text = t }
 
 -- the contract's equation, from those of the two calls
-hands : (h : Receiver) (p : List ℕ) (r : Advanced) (t : RefT (List ℕ)) → advanced r ≡ stepOf (receiverOf h) p → now t ≡ textGiven p (answered (r .answer)) → handed (made t r) ≡ handedOf (receiverOf h) p
+hands : (h : Receiver) (p : List ℕ) (r : Advanced) (t : RefT (List ℕ)) → advanced r ≡ stepOf (receiverOf h) p → now t ≡ textGiven p (stepAnswer (r .answer)) → handed (made t r) ≡ handedOf (receiverOf h) p
 hands h p r t e e₂ = λ i. record { step = e i; text = (e₂ ∙ ap (λ (y : Step). textGiven p (y .answer)) e) i }
 
 module _ {M : Type 1} (𝓤 : URA M) (H : Heap 𝓤) (A : Atoms 𝓤) (at-mem : Memory → SProp 𝓤) (run : Routine → Fun 𝓤) where
   abbrev Text : Contract 𝓤
   Text = tripleOf 𝓤 H A text.signature (text.spec 𝓤 H A at-mem run)
 
-  text-of : (κ : Lft) (s : RefT (List ℕ)) (a : Answer) (t : RefT (List ℕ)) → ent 𝓤 (ensured 𝓤 H A text.ended (text.clauses 𝓤 H A at-mem run) (κ, tt) (s, (a, tt)) tt t) (fact 𝓤 (now t ≡ textGiven (now s) (answered a)))
-  text-of κ s a t = exE 𝓤 _ (λ ws. snd∗ 𝓤 (sem 𝓤 H A (lasts text.ended (κ, tt) (s, (a, tt)) ws)) (fact 𝓤 (now t ≡ textGiven (now s) (answered a))))
+  text-of : (κ : Lft) (s : RefT (List ℕ)) (a : Answer) (t : RefT (List ℕ)) → ent 𝓤 (ensured 𝓤 H A text.ended (text.clauses 𝓤 H A at-mem run) (κ, tt) (s, (a, tt)) tt t) (fact 𝓤 (now t ≡ textGiven (now s) (stepAnswer a)))
+  text-of κ s a t = exE 𝓤 _ (λ ws. snd∗ 𝓤 (sem 𝓤 H A (lasts text.ended (κ, tt) (s, (a, tt)) ws)) (fact 𝓤 (now t ≡ textGiven (now s) (stepAnswer a))))
 
 module _ {M : Type 1} (𝓤 : URA M) (H : Heap 𝓤) (A : Atoms 𝓤) (W : Given 𝓤 H A) (at-mem : Memory → SProp 𝓤) (run : Routine → Fun 𝓤) (κ : Lft) (q : Share) (h : Receiver) (s : RefT (List ℕ)) (gh : Is T.the-row h (mT h ∷ [])) where
   abbrev α : NamedLft
@@ -137,7 +137,7 @@ module _ {M : Type 1} (𝓤 : URA M) (H : Heap 𝓤) (A : Atoms 𝓤) (W : Given
         -- [what `text` asks; the packet's; true; the receiver's; _5; …; _4; …; _3; …; _2; …; _1; …; room for _0; …]
         calls-at ! fm (Text 𝓤 H A at-mem run) known-text (to-text (r .answer)) (and-then ! (load ! (from ! (stop !)) (look ! 10 refl)) (and-then ! (load ! (from ! (stop !)) (look ! 6 refl)) (no-more !))) (λ w′.
         use1 W (later (some (λ (t : RefT (List ℕ)). ((‵ (flft κ q) ⊛ ‵ ftrue) ⊛ ‵ (ShrSlice (named 0) κ u8 .own t (w′ ∷ []))) ⊛ raw (ensured 𝓤 H A text.ended (text.clauses 𝓤 H A at-mem run) (κ, tt) (s, (r .answer, tt)) tt t)))) (id⊢ 𝓤 _) $ await ! tt $ pick ! (λ t.
-        split ! $ move ! (1 ∷ []) $ use1 W (raw (fact 𝓤 (now t ≡ textGiven (now s) (answered (r .answer))))) (text-of 𝓤 H A at-mem run κ s (r .answer) t) $ heard ! (now t ≡ textGiven (now s) (answered (r .answer))) (λ e₂. split ! $ move ! (1 ∷ []) $
+        split ! $ move ! (1 ∷ []) $ use1 W (raw (fact 𝓤 (now t ≡ textGiven (now s) (stepAnswer (r .answer))))) (text-of 𝓤 H A at-mem run κ s (r .answer) t) $ heard ! (now t ≡ textGiven (now s) (stepAnswer (r .answer))) (λ e₂. split ! $ move ! (1 ∷ []) $
         -- [the text's; the token; the packet's; true; the receiver's; room for _5; …; _4; …; _3; …; _2; …; _1; …; room for _0; …]
         peeks ! (ShrSlice (named 0) κ u8) (Is (ShrSlice (named 0) κ u8)) (shows 𝓤 H A (ShrSlice (named 0) κ u8)) t (w′ ∷ []) (λ is₂.
         land ! (from ! (stop !)) (init ! 5 refl (shr-slice-lawful 𝓤 H A W erased κ u8 .typed t (w′ ∷ []) is₂ .0)) $

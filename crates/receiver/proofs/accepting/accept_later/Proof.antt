@@ -10,7 +10,7 @@ use Rattle.delivery.specs.Course.{courseOf, late, forward, distance, wanted, lo
 use Rattle.receiver_spec.specs.Distance.{signed}
 use Rattle.receiver_spec.specs.Answers.{isLate}
 use Rattle.receiver.specs.View.{receiverOf}
-use Rattle.receiver.specs.Accepted.{followed}
+use Rattle.receiver.specs.internal.Accepted.{followed}
 use Rattle.receiver.proofs.Sign.{negative-late, other-forward}
 use Rattle.receiver.proofs.accepting.accept_later.Statement.{statement}
 use Rattle.receiver.proofs.accepting.accept_later.Tie as tie

@@ -48,7 +48,7 @@ use Rattle.writer.specs.declared.Answer.the-variants.{Quiet}
 use Rattle.settings.specs.declared.Judged.{Judged}
 use Rattle.settings.specs.Judging.{judged, isEarly, isReady}
 use Rattle.writer.specs.Draft.{answerBy}
-use Rattle.sender.specs.Clocking.{judgementAt, refusedBy, markerOf, recordAt, Clocks, Sends}
+use Rattle.sender.specs.Clocking.{judgementAt, refusedBy, markerDue, recordAt, Clocks, Sends}
 use Rattle.sender.proofs.Answered.{ready-is, first-marked, early-is, refused-is}
 use Rattle.settings.proofs.Judged as J
 use Rattle.settings.proofs.Judged.Laws as J′
@@ -307,7 +307,7 @@ module _ {M : Type 1} (𝓤 : URA M) (H : Heap 𝓤) (A : Atoms 𝓤) (W : Given
         assigns ! (of-opd ! (load ! (from ! (hop ! (look ! 48 refl) (stop !))) (look-raw ! 0 refl))) (from ! (stop !)) (store ! 26 refl (senders .typed 𝓤 H A W h was)) $
         use0 W (raw (Marking 𝓤 H A mem′ run .pre to-mark)) (goes-mark was) $
         calls-at ! fm (Marking 𝓤 H A mem′ run) known-marking to-mark (and-then ! (copied ! 27 refl) (no-more !)) (λ w₅.
-        returned bools ! (‵ ftrue) (lasts marking.ended tt (h, tt)) (λ m _. m ≡ markerOf h) (id⊢ 𝓤 _) (λ m _ em ism. drop ! $ drop ! $
+        returned bools ! (‵ ftrue) (lasts marking.ended tt (h, tt)) (λ m _. m ≡ markerDue h) (id⊢ 𝓤 _) (λ m _ em ism. drop ! $ drop ! $
         land ! (from ! (stop !)) (init ! 36 refl (bools .typed 𝓤 H A W m ism)) $
         closes-whole senders ! tt h b o was $
         assigns ! (addr ! (from ! (hop ! (look ! 47 refl) (stop !)))) (from ! (stop !)) (init ! 15 refl (tt, tt)) $

@@ -7,7 +7,7 @@ use denote.Ref.{now}
 use Rattle.base.specs.Arrays.{over}
 use Rattle.base.proofs.Lent.{copied}
 use Rattle.sender_spec.specs.Limits.{roomSize}
-use Rattle.slots.specs.Slots.{slotOf, textIn}
+use Rattle.slots.specs.Slots.{slotOf, slotText}
 use Rattle.writer.proofs.Slots.{kept-length}
 use borrow.Author.Needs.{needs}
 use Rattle.writer.proofs.writing.put_text.Statement.{statement}
@@ -19,7 +19,7 @@ part c =
     let from = c .slot .result * roomSize in
     take (from + c .before .least .result - from) (drop from (now (c .before .before .before .before .args .texts)))
 
-text : (c : tie.After-slot) → let a = c .before .before .before .before .args in part c ≡ textIn (now (a .texts)) (slotOf (a .room) (a .back)) (a .len)
+text : (c : tie.After-slot) → let a = c .before .before .before .before .args in part c ≡ slotText (now (a .texts)) (slotOf (a .room) (a .back)) (a .len)
 text c =
     let a = c .before .before .before .before .args in
     let from = c .slot .result * roomSize in

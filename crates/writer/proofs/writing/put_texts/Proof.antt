@@ -2,7 +2,7 @@ use borrow.Rule.Slice.PartMut.{putMid, midOf}
 use Rattle.base.specs.Arrays.{over}
 use Rattle.base.proofs.Lent.{length-over}
 use Rattle.base.proofs.Written.{Begun, begun-end, begun-last, lent-fits}
-use Rattle.slots.specs.Slots.{slotOf, textIn}
+use Rattle.slots.specs.Slots.{slotOf, slotText}
 use Prim.Native.Nat.{ℕ, suc, _+_, _-_, _≤_}
 use mathlib.Core.Path.{_≡_, _∙_, ap}
 use mathlib.Core.List.{List}
@@ -11,7 +11,7 @@ use lib.ListN.{length, getD}
 use borrow.Author.Needs.{needs}
 use denote.Ref.{now}
 use Rattle.packet_spec.specs.Limits.{level}
-use Rattle.writer.specs.Parts.{textAt, waitingAt, textsOf}
+use Rattle.writer.specs.internal.Parts.{textAt, waitingAt, textsOf}
 use Rattle.heading.proofs.Turns.{Turn, turn-none, turn-past, turn-end, turn-room, turn-fits, turn-next}
 use Rattle.writer.proofs.writing.put_texts.Statement.{statement}
 use Rattle.writer.proofs.writing.put_texts.Tie as tie
@@ -33,12 +33,12 @@ abbrev block : tie.Then1 Inv-loop μ-loop → List ℕ
 block c = let a = c .before .before .before .before .before .args in textAt (now (a .texts)) (a .room) (a .t4) (c .before .before .loop .i - 1)
 
 text : (c : tie.Then1 Inv-loop μ-loop) → let a = c .before .before .before .before .before .args in let i = c .before .before .loop .i in
-    textIn (now (a .texts)) (slotOf (a .room) i) (getD (a .t4) (i - 1) 0) ≡ block c
+    slotText (now (a .texts)) (slotOf (a .room) i) (getD (a .t4) (i - 1) 0) ≡ block c
 text c =
     let a = c .before .before .before .before .before .args in
     let i = c .before .before .loop .i in
     let e : i ≡ suc (i - 1) = omega (arith, c .before .loop-test .taken) in
-    ap (λ (back : ℕ). textIn (now (a .texts)) (slotOf (a .room) back) (getD (a .t4) (i - 1) 0)) e
+    ap (λ (back : ℕ). slotText (now (a .texts)) (slotOf (a .room) back) (getD (a .t4) (i - 1) 0)) e
 
 -- the next text fits
 fits : (c : tie.Then1 Inv-loop μ-loop) → let l = c .before .before .loop in l .at + length (block c) ≤ length (l .to)

@@ -20,22 +20,22 @@ begunBy r n =
 abbrev pub kindBy : Reader → ℕ → Reader
 kindBy r b = with r (kindOf (r .opened) (ltb (r .at) (r .size)) b) (r .at)
 
-abbrev pub byteAt : Part → Reader → ℕ → Reader
-byteAt Kind r b = r
-byteAt Types r b = with r (Red b) (r .at)
-byteAt (Red t140) r b = with r (cond (typesBad t140 b) Broken (Opened t140 b)) (r .at)
-byteAt Length r b = with r (Low b) (r .at)
-byteAt (Low high) r b = begunBy r (high * 256 + b)
-byteAt (Piece n) r b = r
-byteAt (Time n) r b = r
-byteAt (Opened t140 red) r b = r
-byteAt Packet r b = r
-byteAt Ended r b = r
-byteAt Broken r b = r
+abbrev pub readerByte : Part → Reader → ℕ → Reader
+readerByte Kind r b = r
+readerByte Types r b = with r (Red b) (r .at)
+readerByte (Red t140) r b = with r (cond (typesBad t140 b) Broken (Opened t140 b)) (r .at)
+readerByte Length r b = with r (Low b) (r .at)
+readerByte (Low high) r b = begunBy r (high * 256 + b)
+readerByte (Piece n) r b = r
+readerByte (Time n) r b = r
+readerByte (Opened t140 red) r b = r
+readerByte Packet r b = r
+readerByte Ended r b = r
+readerByte Broken r b = r
 
 -- a byte of an open's types or of a packet's length
 abbrev pub byteOf : Reader → ℕ → Reader
-byteOf r b = byteAt (r .part) r b
+byteOf r b = readerByte (r .part) r b
 
 -- m of the n bytes that are to come of a time
 abbrev pub timeOf : Reader → ℕ → ℕ → Reader

@@ -23,20 +23,20 @@ seenHeads count hs = take count (map seenHead hs)
 abbrev pub noHead : code.Head
 noHead = record { offset = 0; len = 0 }
 
-pub record Seen : Type 0 where
+pub record HeadersSeen : Type 0 where
   pub number : ℕ
   pub count : ℕ
   pub heads : List Head
   pub first : ℕ
 
-abbrev pub seen : Headers → Seen
-seen h = record { number = outcomeNumber (h .outcome); count = h .count; heads = map seenHead (h .heads); first = h .first }
+abbrev pub headersSeen : Headers → HeadersSeen
+headersSeen h = record { number = outcomeNumber (h .outcome); count = h .count; heads = map seenHead (h .heads); first = h .first }
 
-abbrev pub refusedHeads : ℕ → Seen
+abbrev pub refusedHeads : ℕ → HeadersSeen
 refusedHeads n = record { number = n; count = 0; heads = filled (seenHead noHead) level []; first = 0 }
 
 -- of a payload that ends at a place
-abbrev pub seenBefore : ℕ → Heads → Seen
+abbrev pub seenBefore : ℕ → Heads → HeadersSeen
 seenBefore end (bad n) = refusedHeads n
 seenBefore end (heads hs s) = record { number = 0; count = length hs; heads = filled (seenHead noHead) level hs; first = end - length s }
 
@@ -46,5 +46,5 @@ headsWithin plain t140 p from end =
     cond (ltb end from || ltb (length p) end) (bad 17)
     (cond plain (heads [] (slice from end p)) (headers t140 level [] (slice from end p)))
 
-unfoldable pub headersOf : Bool → ℕ → List ℕ → ℕ → ℕ → Seen
+unfoldable pub headersOf : Bool → ℕ → List ℕ → ℕ → ℕ → HeadersSeen
 headersOf plain t140 p from end = seenBefore end (headsWithin plain t140 p from end)

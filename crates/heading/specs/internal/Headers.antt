@@ -10,7 +10,7 @@ use Rattle.packet_spec.specs.Limits.{level}
 use Rattle.packet_spec.specs.Encoding.{markerBit, fixedHeader, blockHeader}
 use Rattle.delivery.specs.Run.{oldestAge}
 use Rattle.sender_spec.specs.Limits.{roomSize}
-use Rattle.heading.specs.LastFirst.{lastFirst}
+use Rattle.heading.specs.internal.LastFirst.{lastFirst}
 
 -- a time offset has 14 bits
 abbrev pub offsetOf : ℕ → ℕ → ℕ
@@ -20,8 +20,8 @@ abbrev pub headAt : ℕ → ℕ → List ℕ → List ℕ → ℕ → List ℕ
 headAt t140 t lens ats i = blockHeader t140 (offsetOf t (getD ats i 0)) (min (getD lens i 0) roomSize)
 
 -- the headers of the first n blocks, oldest first, and the primary's
-abbrev pub headsOf : ℕ → ℕ → List ℕ → List ℕ → ℕ → List ℕ
-headsOf t140 t lens ats n = lastFirst (headAt t140 t lens ats) (t140 ∷ []) n
+abbrev pub headersFor : ℕ → ℕ → List ℕ → List ℕ → ℕ → List ℕ
+headersFor t140 t lens ats n = lastFirst (headAt t140 t lens ats) (t140 ∷ []) n
 
 -- M and the payload type
 abbrev pub secondOf : Front → ℕ
@@ -29,7 +29,7 @@ secondOf f = markerBit (f .marker) + cond (eqb (f .level) 0) (f .t140 % 128) (f 
 
 -- the block headers of a packet that repeats n blocks: none at level 0
 unfoldable pub headsWith : Front → ℕ → List ℕ
-headsWith f n = cond (eqb (f .level) 0) [] (headsOf (f .t140 % 128) (f .clock) (f .lens) (f .ats) n)
+headsWith f n = cond (eqb (f .level) 0) [] (headersFor (f .t140 % 128) (f .clock) (f .lens) (f .ats) n)
 
 -- all its headers
 abbrev pub frontWith : Front → ℕ → List ℕ
@@ -44,5 +44,5 @@ abbrev pub frontOf : Front → ℕ → List ℕ
 frontOf f count = frontWith f (min count level)
 
 -- x over the front of the space, where it fits
-abbrev pub placed : List ℕ → List ℕ → List ℕ
-placed x p = cond (ltb (length p) (length x)) p (over x p)
+abbrev pub headersPlaced : List ℕ → List ℕ → List ℕ
+headersPlaced x p = cond (ltb (length p) (length x)) p (over x p)

@@ -10,7 +10,7 @@ use Rattle.packet_spec.specs.Header.{Expected, markerOf, sequenceOf, timestampO
 use Rattle.packet_spec.specs.Reading.{headerChecks}
 use Rattle.packet.specs.Refusal.{outcomeNumber}
 
-pub record Seen : Type 0 where
+pub record HeaderSeen : Type 0 where
   pub number : ℕ
   pub plain : Bool
   pub marker : Bool
@@ -20,8 +20,8 @@ pub record Seen : Type 0 where
   pub from : ℕ
   pub end : ℕ
 
-abbrev pub seen : Header → Seen
-seen h = record {
+abbrev pub headerSeen : Header → HeaderSeen
+headerSeen h = record {
   number = outcomeNumber (h .outcome);
   plain = h .plain;
   marker = h .marker;
@@ -32,10 +32,10 @@ seen h = record {
   end = h .end;
 }
 
-abbrev pub refusedHeader : ℕ → Seen
+abbrev pub refusedHeader : ℕ → HeaderSeen
 refusedHeader n = record { number = n; plain = false; marker = false; sequence = 0; timestamp = 0; source = 0; from = 0; end = 0 }
 
-abbrev pub passedHeader : ℕ → List ℕ → Seen
+abbrev pub passedHeader : ℕ → List ℕ → HeaderSeen
 passedHeader t140 p = record {
   number = 0;
   plain = eqb (payloadType p) t140;
@@ -47,5 +47,5 @@ passedHeader t140 p = record {
   end = payloadEnd p;
 }
 
-unfoldable pub headerOf : Expected → ℕ → ℕ → List ℕ → Seen
+unfoldable pub headerOf : Expected → ℕ → ℕ → List ℕ → HeaderSeen
 headerOf expected t140 red p = checked refusedHeader (headerChecks expected t140 red p) (passedHeader t140 p)

@@ -6,16 +6,16 @@ use lib.Dec.{eqb}
 use lib.ListN.{getD}
 use Rattle.writer.specs.declared.Draft.{Draft}
 use Rattle.heading.specs.declared.Front.{Front}
-use Rattle.heading.specs.LastFirst.{lastFirst}
-use Rattle.heading.specs.Headers.{frontWith}
-use Rattle.slots.specs.Slots.{slotOf, textIn}
+use Rattle.heading.specs.internal.LastFirst.{lastFirst}
+use Rattle.heading.specs.internal.Headers.{frontWith}
+use Rattle.slots.specs.Slots.{slotOf, slotText}
 
 abbrev pub textAt : List ℕ → ℕ → List ℕ → ℕ → List ℕ
-textAt texts room lens i = textIn texts (slotOf room (suc i)) (getD lens i 0)
+textAt texts room lens i = slotText texts (slotOf room (suc i)) (getD lens i 0)
 
 -- what waits, no packet back
 abbrev pub waitingAt : List ℕ → ℕ → ℕ → List ℕ
-waitingAt texts room len = textIn texts (slotOf room 0) len
+waitingAt texts room len = slotText texts (slotOf room 0) len
 
 -- the texts of the first n blocks, oldest first, and what waits
 abbrev pub textsOf : List ℕ → ℕ → List ℕ → ℕ → ℕ → List ℕ

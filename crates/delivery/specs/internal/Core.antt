@@ -7,9 +7,9 @@ use lib.ListN.{length}
 use Rattle.delivery.specs.Numbers.{wrapped, next}
 use Rattle.delivery.specs.Course.{courseOf, late, forward, Course, distance, wanted, loss}
 use Rattle.delivery.specs.Record.{Bytes, Entry, lastOf, entries}
-use Rattle.delivery.specs.Sending.{Sender, range}
+use Rattle.delivery.specs.Sending.{BlockSender, range}
 use Rattle.delivery.specs.Run.{oldestAge}
-use Rattle.delivery.specs.Claim.{Near, expected}
+use Rattle.delivery.specs.Claim.{Near, expectedRecord}
 
 -- what is read from an accepted packet: the sequence number, the older blocks (oldest first), the primary
 pub record Packet : Type 0 where
@@ -19,40 +19,40 @@ pub record Packet : Type 0 where
 
 -- a receiver as far as the record goes: fresh (no packet accepted yet),
 -- or with the sequence number it expects, "newest plus 1"
-pub data Receiver : Type 0 where
-  fresh : Receiver
-  expects : ℕ → Receiver
+pub data BlockReceiver : Type 0 where
+  fresh : BlockReceiver
+  expects : ℕ → BlockReceiver
 
 -- the blocks given, where so many older ones are wanted
-abbrev pub blocksGiven : ℕ → Packet → List Bytes
-blocksGiven w p = lastOf w (p .older) ++ (p .primary ∷ [])
+abbrev pub lastBlocks : ℕ → Packet → List Bytes
+lastBlocks w p = lastOf w (p .older) ++ (p .primary ∷ [])
 
 -- what a packet at distance d adds, and the receiver after it, by the packet's course
 abbrev pub addsAt : Course → ℕ → Packet → List Entry
-addsAt forward d p = entries (loss d (length (p .older))) (blocksGiven (wanted d (length (p .older))) p)
+addsAt forward d p = entries (loss d (length (p .older))) (lastBlocks (wanted d (length (p .older))) p)
 addsAt late d p = []
 
-abbrev pub afterAt : Course → ℕ → Packet → Receiver
-afterAt forward e p = expects (next (p .sequence))
-afterAt late e p = expects e
+abbrev pub receiverAfterAt : Course → ℕ → Packet → BlockReceiver
+receiverAfterAt forward e p = expects (next (p .sequence))
+receiverAfterAt late e p = expects e
 
 -- what an accepted packet adds to the record; the first one "gives all its blocks, oldest first, loss 0"
-abbrev pub adds : Receiver → Packet → List Entry
-adds fresh p = entries 0 (blocksGiven (length (p .older)) p)
+abbrev pub adds : BlockReceiver → Packet → List Entry
+adds fresh p = entries 0 (lastBlocks (length (p .older)) p)
 adds (expects e) p = addsAt (courseOf (distance (p .sequence) e)) (distance (p .sequence) e) p
 
 -- the receiver after an accepted packet
-abbrev pub after : Receiver → Packet → Receiver
-after fresh p = expects (next (p .sequence))
-after (expects e) p = afterAt (courseOf (distance (p .sequence) e)) e p
+abbrev pub receiverAfter : BlockReceiver → Packet → BlockReceiver
+receiverAfter fresh p = expects (next (p .sequence))
+receiverAfter (expects e) p = receiverAfterAt (courseOf (distance (p .sequence) e)) e p
 
 -- the record of a list of accepted packets, each given to the receiver that the one before it left
-abbrev pub recordFrom : Receiver → List Packet → List Entry
+abbrev pub recordFrom : BlockReceiver → List Packet → List Entry
 recordFrom receiver [] = []
-recordFrom receiver (p ∷ ps) = adds receiver p ++ recordFrom (after receiver p) ps
+recordFrom receiver (p ∷ ps) = adds receiver p ++ recordFrom (receiverAfter receiver p) ps
 
 -- packet k as it is read
-abbrev pub sent : Sender → ℕ → Packet
+abbrev pub sent : BlockSender → ℕ → Packet
 sent S k = record {
   sequence = wrapped (S .first + S .newest k);
   older = map (S .block) (range (S .oldest k) (S .newest k - S .oldest k));
@@ -60,14 +60,14 @@ sent S k = record {
 }
 
 -- from packet to packet neither the oldest nor the newest block falls; a newest block may be that of the packet before
-pub record InOrder (S : Sender) : Type 0 where
+pub record InOrder (S : BlockSender) : Type 0 where
   pub oldest-le : (k : ℕ) → S .oldest k ≤ S .newest k
   pub oldest-rises : (k : ℕ) → S .oldest k ≤ S .oldest (suc k)
   pub newest-rises : (k : ℕ) → S .newest k ≤ S .newest (suc k)
 
 -- the core of demand 3
 abbrev pub Delivered : Type 0
-Delivered = (S : Sender) → InOrder S → (ks : List ℕ) → Near S ks → recordFrom fresh (map (sent S) ks) ≡ expected S ks
+Delivered = (S : BlockSender) → InOrder S → (ks : List ℕ) → Near S ks → recordFrom fresh (map (sent S) ks) ≡ expectedRecord S ks
 
 -- packet k may carry the blocks from block j on; `oldestOf` is the least such j
 pub record MayCarryFrom (R : ℕ) (time : ℕ → ℕ) (k j : ℕ) : Type 0 where
