@@ -2,12 +2,12 @@
 use Prim.Native.Nat.{ℕ, _+_, _-_, _<_, _≤_}
 use mathlib.Core.Path.{_≡_, _∙_, refl, ap, sym, subst}
 use mathlib.Core.List.{List, [], _++_, append-assoc}
-use mathlib.Core.Bool.{Bool, true, false, _&&_}
+use mathlib.Core.Bool.{true, false, _&&_}
 use native.Mathlib.Omega.{arith}
 use borrow.Rule.Slice.PartMut.{putMid, midOf}
 use lib.Dec.{ltb}
-use lib.ListN.{length, take, drop, length-drop, length-append}
-use lib.Seq.{drop-drop, length-take-le, take-all}
+use lib.ListN.{length, drop, length-drop, length-append}
+use lib.Seq.{drop-drop, take-all}
 use Rattle.base.specs.Arrays.{over}
 use Rattle.base.proofs.Lent.{length-over, wrote}
 use Rattle.base.proofs.Tests.{and-left}

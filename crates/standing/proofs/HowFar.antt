@@ -1,5 +1,5 @@
 -- How far a call gets: what may still be read, and what is due.
-use Prim.Native.Nat.{ℕ, _+_, _-_, _*_, _/_, _<_, _≤_, min}
+use Prim.Native.Nat.{ℕ, _+_, _-_, _*_, _<_, _≤_, min}
 use mathlib.Core.Path.{_≡_, _∙_, refl, ap, sym}
 use mathlib.Core.List.{List}
 use mathlib.Core.Bool.{Bool, true, false, cond, _&&_, true≢false}
@@ -15,11 +15,6 @@ use Rattle.standing.specs.Standing.{Standing, closed, settled, settledAt
 use Rattle.printing.proofs.Fitting.{fitting-length, fitting-fits}
 use Rattle.standing.proofs.Unread.{unread-less, goes-on}
 use Rattle.standing.proofs.Settled.{waits-at}
-
--- nothing is taken while something is due
-pub take-off : (c : Standing) (x : List ℕ) → hungry c ≡ false → (c ≡ takeOf c x) × (0 ≡ usedOf c x)
-unfolding takeOf usedOf
-take-off c x h = (rw h, rw h)
 
 pub stop-on : (c : Standing) → hungry c ≡ true → closed c Broken brokenLine ≡ stopOf c
 unfolding stopOf
@@ -66,14 +61,6 @@ take-left c x = go (hungry c)
 pub give-left : (c : Standing) (n : ℕ) → giveOf c n .left ≡ c .left
 unfolding giveOf
 give-left c n = refl
-
-pub stop-left : (c : Standing) → stopOf c .left ≡ c .left
-unfolding stopOf
-stop-left c = go (hungry c)
-  where
-    go : (b : Bool) → cond b (closed c Broken brokenLine) c .left ≡ c .left
-    go true = refl
-    go false = refl
 
 pub given-length : (c : Standing) (n : ℕ) → length (givenOf c n) ≡ 3 * marksIn c n + textFits c n
 unfolding givenOf

@@ -1,4 +1,5 @@
 use mathlib.Core.Path.{_∙_, sym}
+use native.Mathlib.Nat.{le-refl}
 use native.Mathlib.Omega.{arith}
 use denote.Ref.{now}
 use lib.ListN.{drop}
@@ -25,19 +26,16 @@ sub-give : tie.Need-sub-give Inv-loop μ-loop
 sub-give c =
     let st = c .before .before .before .before .before in
     let l = c .before .loop in
-    omega (arith, in-space (st .args .s) (now (st .args .packet)) (now (st .args .input)) (now (st .args .space)) (l .transcript) (l .packet) (l .space) (l .used) (l .count) (l .inv))
+    in-space (st .args .s) (now (st .args .packet)) (now (st .args .input)) (now (st .args .space)) (l .transcript) (l .packet) (l .space) (l .used) (l .count) (l .inv)
 
 part-give-start : tie.Need-part-give-start Inv-loop μ-loop
 part-give-start c =
     let st = c .before .before .before .before .before in
     let l = c .before .loop in
-    omega (arith, in-space (st .args .s) (now (st .args .packet)) (now (st .args .input)) (now (st .args .space)) (l .transcript) (l .packet) (l .space) (l .used) (l .count) (l .inv))
+    in-space (st .args .s) (now (st .args .packet)) (now (st .args .input)) (now (st .args .space)) (l .transcript) (l .packet) (l .space) (l .used) (l .count) (l .inv)
 
 part-give-end : tie.Need-part-give-end Inv-loop μ-loop
-part-give-end c =
-    let st = c .before .before .before .before .before in
-    let l = c .before .loop in
-    omega (arith, in-space (st .args .s) (now (st .args .packet)) (now (st .args .input)) (now (st .args .space)) (l .transcript) (l .packet) (l .space) (l .used) (l .count) (l .inv))
+part-give-end c = le-refl _
 
 give-requires : tie.Need-give-requires Inv-loop μ-loop
 give-requires c κs = (c .before .before .loop .inv .still, c .before .before .loop .inv .long)
@@ -74,13 +72,13 @@ returns c =
     last (st .args .s) (now (st .args .packet)) (now (st .args .input)) (now (st .args .space)) (l .transcript) (l .packet) (l .space) (l .used) (l .count) (l .inv) (g .result .transcript) (g .last .1 .1 .0) (g .result .count) (g .ensures) h
 
 sub-take : tie.Need-sub-take Inv-loop μ-loop
-sub-take c = omega (arith, c .before .before .before .before .before .before .before .before .before .loop .inv .uses)
+sub-take c = c .before .before .before .before .before .before .before .before .before .loop .inv .uses
 
 part-take-start : tie.Need-part-take-start Inv-loop μ-loop
-part-take-start c = omega (arith, c .before .before .before .before .before .before .before .before .before .loop .inv .uses)
+part-take-start c = c .before .before .before .before .before .before .before .before .before .loop .inv .uses
 
 part-take-end : tie.Need-part-take-end Inv-loop μ-loop
-part-take-end c = omega (arith, c .before .before .before .before .before .before .before .before .before .loop .inv .uses)
+part-take-end c = le-refl _
 
 take-requires : tie.Need-take-requires Inv-loop μ-loop
 take-requires c κs =
