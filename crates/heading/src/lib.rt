@@ -105,8 +105,8 @@ fn put_header(to: &mut [u8], second: u8, sequence: u16, timestamp: u32, source: 
     to[11] = (source % 256) as u8;
 }
 
-// The headers of the first `count` blocks, the last of them first, and the primary's. The loop has a fixed number of turns, so
-// that it is unrolled and no array is copied.
+// The headers of the first `count` blocks, the last of them first, and the primary's. The loop has a fixed number of turns and
+// no `continue`, so that it is unrolled and no array is copied.
 fn put_heads(
     to: &mut [u8],
     t140: u8,

@@ -1,7 +1,7 @@
 -- The clock call's answer, by its judgement and by what became of the draft.
 use Prim.Native.Nat.{ℕ}
 use mathlib.Core.Path.{_≡_, _∙_, refl, ap, sym}
-use mathlib.Core.List.{List, [], _∷_}
+use mathlib.Core.List.{List}
 use mathlib.Core.Bool.{Bool, true, false, cond, not, _||_, _&&_}
 use lib.Dec.{ltb, eqb, T as Holds}
 use lib.ListN.{length}
@@ -18,8 +18,7 @@ use Rattle.sender_spec.specs.State.{hasText}
 use Rattle.sender_spec.specs.Settings.{settingsNumber}
 use Rattle.sender_spec.specs.Answers.{ClockAnswer, refused, quiet, sent, ClockResult}
 use Rattle.sender_spec.specs.Packets.{carried, anyText, readyAt, packetBytes, afterPacket}
-use Rattle.sender_spec.specs.Calls.{clockOf, clockSent, clockQuiet, senderAt, clockRefused, spaceChecks}
-use Rattle.settings.specs.State.{settingsOf}
+use Rattle.sender_spec.specs.Clocking.{senderAt, clockRefused, clockQuiet, clockSent, spaceChecks, clockOf}
 use Rattle.settings.specs.declared.Judged.{Judged}
 use Rattle.settings.specs.declared.Judged.the-variants as Judgements
 use Rattle.settings.specs.Judging as Judging

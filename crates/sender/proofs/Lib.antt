@@ -4,3 +4,4 @@ pub mod Joined
 pub mod Drafted
 pub mod Answered
 pub mod Chosen
+pub mod Asked

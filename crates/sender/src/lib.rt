@@ -95,8 +95,9 @@ impl Sender {
         clocking::refused(judgement)
     }
 
-    // Answers a call that is ready, by the packet's length, and goes on behind it. This is apart from the clock call, and has two
-    // callers, so that a quiet call does not make ready for it.
+    // Sends the packet of a call that is ready, with this M, where there is something to send and the space holds it; the packet's
+    // length, as `put` answers it. It stands apart and is called in two places, so that it is not inlined and a quiet call saves no
+    // registers for it.
     fn send(
         &mut self,
         texts: &[u8; Sender::TEXTS],

@@ -33,7 +33,8 @@ fn put_text(to: &mut [u8], texts: &[u8], room: usize, back: usize, len: usize) -
     size
 }
 
-// The texts of the first `count` blocks, the last of them first, and what waits.
+// The texts of the first `count` blocks, the last of them first, and what waits. The loop is such that it is unrolled, as that of
+// the block headers is.
 pub fn put_texts(
     to: &mut [u8],
     texts: &[u8],

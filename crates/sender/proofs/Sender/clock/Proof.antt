@@ -40,22 +40,17 @@ use denote.Triple.Table.{entered, cited}
 use denote.Triple.Walked.{says, Stays, gave-ref, stay-none, stay-none-ref, gave-slice, walkOf, goes-none, goes-none-ref, goes-gave-ref, goes-gave-slice, ends-at, walked, walk-meets}
 use denote.Exit.{yes}
 use Rattle.base.specs.Flags.{isSet}
-use Rattle.base.proofs.Records.{Data, of-record, of-enum, of-uint, of-bool, Known, had, opens-whole, closes-whole, returned, copied, freed, unused, leaves-if}
+use Rattle.base.proofs.Records.{of-uint, Known, had, opens-whole, closes-whole, returned, copied, freed, unused, leaves-if}
 use Rattle.slots.specs.Slots.{textsSize}
+use Rattle.sender.proofs.Asked.{senders, judgements, answers, bools, sizes, with-one, with-two, Judging, goes-judge, IsReady, goes-ready, IsEarly, goes-early, Refusing, goes-refuse, IsFirst, goes-first, Marking, goes-mark, BySize, goes-by-size, At, goes-at}
 use Rattle.sender.specs.declared.Sender.{Sender}
 use Rattle.writer.specs.declared.Answer.{Answer}
 use Rattle.writer.specs.declared.Answer.the-variants.{Quiet}
-use Rattle.settings.specs.declared.Judged.{Judged}
 use Rattle.settings.specs.Judging.{judged, isEarly, isReady}
 use Rattle.writer.specs.Draft.{answerBy}
 use Rattle.sender.specs.Clocking.{judgementAt, refusedBy, markerDue, recordAt, Clocks, Sends}
 use Rattle.sender.proofs.Answered.{ready-is, first-marked, early-is, refused-is}
-use Rattle.settings.proofs.Judged as J
-use Rattle.settings.proofs.Judged.Laws as J′
-use Rattle.writer.proofs.Answer as N
-use Rattle.writer.proofs.Answer.Laws as N′
 use Rattle.sender.proofs.Sender as S
-use Rattle.sender.proofs.Sender.Laws as S′
 use Rattle.sender.proofs.clocking.judge as judging
 use Rattle.sender.proofs.clocking.judge.Symbol as judging-def
 use Rattle.sender.proofs.clocking.judge.Symbol.{name as #sender·clocking·judge}
@@ -97,23 +92,8 @@ use Rattle.sender.proofs.Sender.clock as this
 use Rattle.sender.proofs.Sender.clock.Statement as stated
 use Rattle.sender.proofs.Sender.clock.Code as code
 
-abbrev senders : Data
-senders = of-record S.the-type S′.the-laws S′.the-plain
-
-abbrev judgements : Data
-judgements = of-enum J.the-type J′.the-laws J′.the-plain tt
-
-abbrev answers : Data
-answers = of-enum N.the-type N′.the-laws N′.the-plain tt
-
 quiet-known : Known answers Quiet
 quiet-known = ([], (refl, (tt, (refl, tt))))
-
-abbrev bools : Data
-bools = of-bool
-
-abbrev sizes : Data
-sizes = of-uint w64
 
 abbrev Lent : RattleType
 Lent = Array u8 textsSize
@@ -123,32 +103,8 @@ stayed = (gave-ref (0 ∷ []) tt (plain (λ _. S.the-row)), (stay-none (λ _. u6
 
 module _ {M : Type 1} (𝓤 : URA M) (H : Heap 𝓤) (A : Atoms 𝓤) (mem′ : Memory → SProp 𝓤) (run : Routine → Fun 𝓤) where
   -- the contracts that the walk cites
-  abbrev Judging : Contract 𝓤
-  Judging = tripleOf 𝓤 H A judging.signature (judging.spec 𝓤 H A mem′ run)
-
-  abbrev IsReady : Contract 𝓤
-  IsReady = tripleOf 𝓤 H A is-ready.signature (is-ready.spec 𝓤 H A mem′ run)
-
-  abbrev IsFirst : Contract 𝓤
-  IsFirst = tripleOf 𝓤 H A is-first.signature (is-first.spec 𝓤 H A mem′ run)
-
-  abbrev Marking : Contract 𝓤
-  Marking = tripleOf 𝓤 H A marking.signature (marking.spec 𝓤 H A mem′ run)
-
   abbrev Sending : Contract 𝓤
   Sending = tripleOf 𝓤 H A sending.signature (sending.spec 𝓤 H A mem′ run)
-
-  abbrev BySize : Contract 𝓤
-  BySize = tripleOf 𝓤 H A by-size.signature (by-size.spec 𝓤 H A mem′ run)
-
-  abbrev IsEarly : Contract 𝓤
-  IsEarly = tripleOf 𝓤 H A is-early.signature (is-early.spec 𝓤 H A mem′ run)
-
-  abbrev At : Contract 𝓤
-  At = tripleOf 𝓤 H A at.signature (at.spec 𝓤 H A mem′ run)
-
-  abbrev Refusing : Contract 𝓤
-  Refusing = tripleOf 𝓤 H A refusing.signature (refusing.spec 𝓤 H A mem′ run)
 
 module _ {M : Type 1} (𝓤 : URA M) (H : Heap 𝓤) (A : Atoms 𝓤) (W : Given 𝓤 H A) (mem′ : Memory → SProp 𝓤) (run : Routine → Fun 𝓤) (κ κ₁ κ₂ : Lft) (q q₁ q₂ : Share) (b o : ℕ) (γ : GName) (h : Sender) (t : ℕ) (x : RefT (List ℕ)) (p : RefT (List ℕ)) where
   abbrev u : Val
@@ -181,42 +137,6 @@ module _ {M : Type 1} (𝓤 : URA M) (H : Heap 𝓤) (A : Atoms 𝓤) (W : Given
   abbrev Post : Val → SProp 𝓤
   Post = walkOf 𝓤 H A this.ended stayed (this.clauses 𝓤 H A mem′ run) .post (((κ, (κ₁, (κ₂, tt))), (q, (q₁, (q₂, tt))), tt, args, vals), tt)
 
-  abbrev to-judge : Judging 𝓤 H A mem′ run .Ghost
-  to-judge = ((tt, tt, tt, (h, (t, tt)), (senders .val h ∷ [], (vint w64 t ∷ [], tt))), tt)
-
-  goes-judge : t < 2 ^ 64 → Known senders h → ent 𝓤 (emp 𝓤) (Judging 𝓤 H A mem′ run .pre to-judge)
-  goes-judge fits is = qed W [] ∵ nothing ! $ had (of-uint w64) ! t (refl, fits) $ fjoin ! $ had senders ! h is $ fjoin ! $ nothing ! $ join ! $ frame ! $ done !
-
-  abbrev to-ready : Judged → IsReady 𝓤 H A mem′ run .Ghost
-  to-ready j = ((tt, tt, tt, (j, tt), (judgements .val j ∷ [], tt)), tt)
-
-  goes-ready : (j : Judged) → Known judgements j → ent 𝓤 (emp 𝓤) (IsReady 𝓤 H A mem′ run .pre (to-ready j))
-  goes-ready j is = qed W [] ∵ nothing ! $ had judgements ! j is $ fjoin ! $ nothing ! $ join ! $ frame ! $ done !
-
-  abbrev to-early : Judged → IsEarly 𝓤 H A mem′ run .Ghost
-  to-early j = ((tt, tt, tt, (j, tt), (judgements .val j ∷ [], tt)), tt)
-
-  goes-early : (j : Judged) → Known judgements j → ent 𝓤 (emp 𝓤) (IsEarly 𝓤 H A mem′ run .pre (to-early j))
-  goes-early j is = qed W [] ∵ nothing ! $ had judgements ! j is $ fjoin ! $ nothing ! $ join ! $ frame ! $ done !
-
-  abbrev to-refuse : Judged → Refusing 𝓤 H A mem′ run .Ghost
-  to-refuse j = ((tt, tt, tt, (j, tt), (judgements .val j ∷ [], tt)), tt)
-
-  goes-refuse : (j : Judged) → Known judgements j → ent 𝓤 (emp 𝓤) (Refusing 𝓤 H A mem′ run .pre (to-refuse j))
-  goes-refuse j is = qed W [] ∵ nothing ! $ had judgements ! j is $ fjoin ! $ nothing ! $ join ! $ frame ! $ done !
-
-  abbrev to-first : IsFirst 𝓤 H A mem′ run .Ghost
-  to-first = ((tt, tt, tt, (h, tt), (senders .val h ∷ [], tt)), tt)
-
-  goes-first : Known senders h → ent 𝓤 (emp 𝓤) (IsFirst 𝓤 H A mem′ run .pre to-first)
-  goes-first is = qed W [] ∵ nothing ! $ had senders ! h is $ fjoin ! $ nothing ! $ join ! $ frame ! $ done !
-
-  abbrev to-mark : Marking 𝓤 H A mem′ run .Ghost
-  to-mark = ((tt, tt, tt, (h, tt), (senders .val h ∷ [], tt)), tt)
-
-  goes-mark : Known senders h → ent 𝓤 (emp 𝓤) (Marking 𝓤 H A mem′ run .pre to-mark)
-  goes-mark is = qed W [] ∵ nothing ! $ had senders ! h is $ fjoin ! $ nothing ! $ join ! $ frame ! $ done !
-
   abbrev to-send : Bool → Sending 𝓤 H A mem′ run .Ghost
   to-send m = (((κ, (κ₁, (κ₂, tt))), (q, (q₁, (q₂, tt))), tt, (y, (x, (t, (p, (m, tt))))), (vptr b o ∷ [], (u ∷ [], (vint w64 t ∷ [], (v ∷ [], (vbool m ∷ [], tt)))))), tt)
 
@@ -224,18 +144,6 @@ module _ {M : Type 1} (𝓤 : URA M) (H : Heap 𝓤) (A : Atoms 𝓤) (W : Given
   goes-send fits m =
       qed W (‵ (fsep Lends Packet) ∷ ‵ Texts ∷ (‵ (flft κ q) ⊛ ‵ (flft κ₁ q₁) ⊛ ‵ (flft κ₂ q₂) ⊛ ‵ ftrue) ∷ []) ∵ fsplit ! $ nothing ! $ had bools ! m refl $ fjoin ! $ move ! (2 ∷ 0 ∷ []) $ fjoin ! $
       had (of-uint w64) ! t (refl, fits) $ fjoin ! $ move ! (2 ∷ 0 ∷ []) $ fjoin ! $ move ! (1 ∷ 0 ∷ []) $ fjoin ! $ move ! (1 ∷ 0 ∷ []) $ join ! $ frame ! $ done !
-
-  abbrev to-by-size : ℕ → BySize 𝓤 H A mem′ run .Ghost
-  to-by-size n = ((tt, tt, tt, (n, (space, tt)), (vint w64 n ∷ [], (vint w64 space ∷ [], tt))), tt)
-
-  goes-by-size : space < 2 ^ 64 → (n : ℕ) → Known sizes n → ent 𝓤 (emp 𝓤) (BySize 𝓤 H A mem′ run .pre (to-by-size n))
-  goes-by-size room n is = qed W [] ∵ nothing ! $ had sizes ! space (refl, room) $ fjoin ! $ had sizes ! n is $ fjoin ! $ nothing ! $ join ! $ frame ! $ done !
-
-  abbrev to-at : At 𝓤 H A mem′ run .Ghost
-  to-at = ((tt, tt, tt, (h, (t, tt)), (senders .val h ∷ [], (vint w64 t ∷ [], tt))), tt)
-
-  goes-at : t < 2 ^ 64 → Known senders h → ent 𝓤 (emp 𝓤) (At 𝓤 H A mem′ run .pre to-at)
-  goes-at fits is = qed W [] ∵ nothing ! $ had (of-uint w64) ! t (refl, fits) $ fjoin ! $ had senders ! h is $ fjoin ! $ nothing ! $ join ! $ frame ! $ done !
 
   -- the packet ends as it is
   stays : ent 𝓤 (⋆ 𝓤 H A (‵ Packet ∷ [])) (sem 𝓤 H A (finally u8 (p .name) (p .now)))
@@ -267,18 +175,18 @@ module _ {M : Type 1} (𝓤 : URA M) (H : Heap 𝓤) (A : Atoms 𝓤) (W : Given
         move ! (51 ∷ 52 ∷ 53 ∷ []) $ opens-whole senders ! tt h b o (λ was.
         -- [the sender's cell; the open borrow; obs; auth; _23; …; _0; …; the packet; true; the texts; the tokens]
         assigns ! (of-opd ! (load ! (from ! (hop ! (look ! 48 refl) (stop !))) (look-raw ! 0 refl))) (from ! (stop !)) (init ! 32 refl (senders .typed 𝓤 H A W h was)) $
-        use0 W (raw (Judging 𝓤 H A mem′ run .pre to-judge)) (goes-judge fits was) $
-        calls-at ! fm (Judging 𝓤 H A mem′ run) known-judging to-judge (and-then ! (copied ! 33 refl) (and-then ! (copied ! 47 refl) (no-more !))) (λ w₀.
+        use0 W (raw (Judging 𝓤 H A mem′ run .pre (with-two senders sizes h t))) (goes-judge 𝓤 H A mem′ run W h was t (refl, fits)) $
+        calls-at ! fm (Judging 𝓤 H A mem′ run) known-judging (with-two senders sizes h t) (and-then ! (copied ! 33 refl) (and-then ! (copied ! 47 refl) (no-more !))) (λ w₀.
         returned judgements ! (‵ ftrue) (lasts judging.ended tt (h, (t, tt))) (λ j _. judged j ≡ judgementAt h t) (id⊢ 𝓤 _) (λ j _ ej isj. drop ! $ drop ! $
         land ! (from ! (stop !)) (init ! 40 refl (judgements .typed 𝓤 H A W j isj)) $
-        use0 W (raw (IsReady 𝓤 H A mem′ run .pre (to-ready j))) (goes-ready j isj) $
-        calls-at ! fm (IsReady 𝓤 H A mem′ run) known-is-ready (to-ready j) (and-then ! (copied ! 41 refl) (no-more !)) (λ w₁.
+        use0 W (raw (IsReady 𝓤 H A mem′ run .pre (with-one judgements j))) (goes-ready 𝓤 H A mem′ run W j isj) $
+        calls-at ! fm (IsReady 𝓤 H A mem′ run) known-is-ready (with-one judgements j) (and-then ! (copied ! 41 refl) (no-more !)) (λ w₁.
         returned bools ! (‵ ftrue) (lasts is-ready.ended tt (j, tt)) (λ d _. d ≡ isReady j) (id⊢ 𝓤 _) (λ d _ ed isd. drop ! $ drop ! $
         land ! (from ! (stop !)) (init ! 30 refl (bools .typed 𝓤 H A W d isd)) $
         leaves-if ! (copied ! 30 refl) (λ due.
         assigns ! (of-opd ! (load ! (from ! (hop ! (look ! 48 refl) (stop !))) (look-raw ! 0 refl))) (from ! (stop !)) (init ! 26 refl (senders .typed 𝓤 H A W h was)) $
-        use0 W (raw (IsFirst 𝓤 H A mem′ run .pre to-first)) (goes-first was) $
-        calls-at ! fm (IsFirst 𝓤 H A mem′ run) known-is-first to-first (and-then ! (copied ! 27 refl) (no-more !)) (λ w₂.
+        use0 W (raw (IsFirst 𝓤 H A mem′ run .pre (with-one senders h))) (goes-first 𝓤 H A mem′ run W h was) $
+        calls-at ! fm (IsFirst 𝓤 H A mem′ run) known-is-first (with-one senders h) (and-then ! (copied ! 27 refl) (no-more !)) (λ w₂.
         returned bools ! (‵ ftrue) (lasts is-first.ended tt (h, tt)) (λ f _. f ≡ not (isSet (h .progress .sent))) (id⊢ 𝓤 _) (λ f _ ef isf. drop ! $ drop ! $
         land ! (from ! (stop !)) (init ! 28 refl (bools .typed 𝓤 H A W f isf)) $
         leaves-if ! (copied ! 28 refl) (λ first.
@@ -296,8 +204,8 @@ module _ {M : Type 1} (𝓤 : URA M) (H : Heap 𝓤) (A : Atoms 𝓤) (W : Given
         -- [the packet's last bytes; the sender's last value; the tokens; the texts; _23; …; _0; …; true]
         land ! (from ! (stop !)) (init ! 38 refl (sizes .typed 𝓤 H A W n isn)) $
         assigns ! (of-opd ! (load ! (from ! (fld ! refl (stop !))) (look-in ! 42 (sub ! 1 refl (whole !))))) (from ! (stop !)) (init ! 18 refl (tt, record { fits = room .0 })) $
-        use0 W (raw (BySize 𝓤 H A mem′ run .pre (to-by-size n))) (goes-by-size (room .0) n isn) $
-        calls-at ! fm (BySize 𝓤 H A mem′ run) known-by-size (to-by-size n) (and-then ! (copied ! 39 refl) (and-then ! (copied ! 19 refl) (no-more !))) (λ w₄.
+        use0 W (raw (BySize 𝓤 H A mem′ run .pre (with-two sizes sizes n space))) (goes-by-size 𝓤 H A mem′ run W n isn space (refl, room .0)) $
+        calls-at ! fm (BySize 𝓤 H A mem′ run) known-by-size (with-two sizes sizes n space) (and-then ! (copied ! 39 refl) (and-then ! (copied ! 19 refl) (no-more !))) (λ w₄.
         returned answers ! (‵ ftrue) (lasts by-size.ended tt (n, (space, tt))) (λ r _. r ≡ answerBy n space) (id⊢ 𝓤 _) (λ r _ er is. drop ! $ drop ! $
         land ! (from ! (stop !)) (init ! 50 refl (answers .typed 𝓤 H A W r is)) $
         returns-within ! Post refl (look ! 50 refl) $ freed ! 50 refl refl $ freed ! 48 refl refl $ freed ! 46 refl refl $ freed ! 44 refl refl $ freed ! 42 refl refl $ freed ! 40 refl refl $ freed ! 38 refl refl $ unused ! 36 refl refl $ unused ! 34 refl refl $ freed ! 32 refl refl $ freed ! 30 refl refl $ freed ! 28 refl refl $ freed ! 26 refl refl $ freed ! 24 refl refl $ freed ! 22 refl refl $ freed ! 20 refl refl $ freed ! 18 refl refl $ unused ! 16 refl refl $ unused ! 14 refl refl $ unused ! 12 refl refl $ unused ! 10 refl refl $ unused ! 8 refl refl $ unused ! 6 refl refl $ unused ! 4 refl refl $ free0 ! $
@@ -305,9 +213,9 @@ module _ {M : Type 1} (𝓤 : URA M) (H : Heap 𝓤) (A : Atoms 𝓤) (W : Given
         (λ later.
         -- one behind others
         assigns ! (of-opd ! (load ! (from ! (hop ! (look ! 48 refl) (stop !))) (look-raw ! 0 refl))) (from ! (stop !)) (store ! 26 refl (senders .typed 𝓤 H A W h was)) $
-        use0 W (raw (Marking 𝓤 H A mem′ run .pre to-mark)) (goes-mark was) $
-        calls-at ! fm (Marking 𝓤 H A mem′ run) known-marking to-mark (and-then ! (copied ! 27 refl) (no-more !)) (λ w₅.
-        returned bools ! (‵ ftrue) (lasts marking.ended tt (h, tt)) (λ m _. m ≡ markerDue h) (id⊢ 𝓤 _) (λ m _ em ism. drop ! $ drop ! $
+        use0 W (raw (Marking 𝓤 H A mem′ run .pre (with-one senders h))) (goes-mark 𝓤 H A mem′ run W h was) $
+        calls-at ! fm (Marking 𝓤 H A mem′ run) known-marking (with-one senders h) (and-then ! (copied ! 27 refl) (no-more !)) (λ w₅.
+        returned bools ! (‵ ftrue) (lasts marking.ended tt (h, tt)) (λ m _. m ≡ markerOf h) (id⊢ 𝓤 _) (λ m _ em ism. drop ! $ drop ! $
         land ! (from ! (stop !)) (init ! 36 refl (bools .typed 𝓤 H A W m ism)) $
         closes-whole senders ! tt h b o was $
         assigns ! (addr ! (from ! (hop ! (look ! 47 refl) (stop !)))) (from ! (stop !)) (init ! 15 refl (tt, tt)) $
@@ -322,22 +230,22 @@ module _ {M : Type 1} (𝓤 : URA M) (H : Heap 𝓤) (A : Atoms 𝓤) (W : Given
         -- [the packet's last bytes; the sender's last value; the tokens; the texts; _23; …; _0; …; true]
         land ! (from ! (stop !)) (init ! 34 refl (sizes .typed 𝓤 H A W n isn)) $
         assigns ! (of-opd ! (load ! (from ! (fld ! refl (stop !))) (look-in ! 42 (sub ! 1 refl (whole !))))) (from ! (stop !)) (init ! 10 refl (tt, record { fits = room .0 })) $
-        use0 W (raw (BySize 𝓤 H A mem′ run .pre (to-by-size n))) (goes-by-size (room .0) n isn) $
-        calls-at ! fm (BySize 𝓤 H A mem′ run) known-by-size (to-by-size n) (and-then ! (copied ! 35 refl) (and-then ! (copied ! 11 refl) (no-more !))) (λ w₇.
+        use0 W (raw (BySize 𝓤 H A mem′ run .pre (with-two sizes sizes n space))) (goes-by-size 𝓤 H A mem′ run W n isn space (refl, room .0)) $
+        calls-at ! fm (BySize 𝓤 H A mem′ run) known-by-size (with-two sizes sizes n space) (and-then ! (copied ! 35 refl) (and-then ! (copied ! 11 refl) (no-more !))) (λ w₇.
         returned answers ! (‵ ftrue) (lasts by-size.ended tt (n, (space, tt))) (λ r _. r ≡ answerBy n space) (id⊢ 𝓤 _) (λ r _ er is. drop ! $ drop ! $
         land ! (from ! (stop !)) (init ! 50 refl (answers .typed 𝓤 H A W r is)) $
         returns-within ! Post refl (look ! 50 refl) $ freed ! 50 refl refl $ freed ! 48 refl refl $ freed ! 46 refl refl $ freed ! 44 refl refl $ freed ! 42 refl refl $ freed ! 40 refl refl $ unused ! 38 refl refl $ freed ! 36 refl refl $ freed ! 34 refl refl $ freed ! 32 refl refl $ freed ! 30 refl refl $ freed ! 28 refl refl $ freed ! 26 refl refl $ unused ! 24 refl refl $ unused ! 22 refl refl $ unused ! 20 refl refl $ unused ! 18 refl refl $ freed ! 16 refl refl $ freed ! 14 refl refl $ freed ! 12 refl refl $ freed ! 10 refl refl $ unused ! 8 refl refl $ unused ! 6 refl refl $ unused ! 4 refl refl $ free0 ! $
         keep ! (0 ∷ 1 ∷ 2 ∷ 3 ∷ []) $ by ! (exits fits (zs .0) (zs .1 .1 .1 .0) r (subst (λ (a : Answer). Does a (zs .0) (zs .1 .1 .1 .0)) (sym er) (e (ready-is h t j (subst Holds ed due) ej) em)) l is))))))))))))
         (λ going.
-        use0 W (raw (IsEarly 𝓤 H A mem′ run .pre (to-early j))) (goes-early j isj) $
-        calls-at ! fm (IsEarly 𝓤 H A mem′ run) known-is-early (to-early j) (and-then ! (copied ! 41 refl) (no-more !)) (λ w₈.
+        use0 W (raw (IsEarly 𝓤 H A mem′ run .pre (with-one judgements j))) (goes-early 𝓤 H A mem′ run W j isj) $
+        calls-at ! fm (IsEarly 𝓤 H A mem′ run) known-is-early (with-one judgements j) (and-then ! (copied ! 41 refl) (no-more !)) (λ w₈.
         returned bools ! (‵ ftrue) (lasts is-early.ended tt (j, tt)) (λ g _. g ≡ isEarly j) (id⊢ 𝓤 _) (λ g _ eg isg. drop ! $ drop ! $
         land ! (from ! (stop !)) (init ! 8 refl (bools .typed 𝓤 H A W g isg)) $
         leaves-if ! (copied ! 8 refl) (λ early.
         -- too early for a packet
         assigns ! (of-opd ! (load ! (from ! (hop ! (look ! 48 refl) (stop !))) (look-raw ! 0 refl))) (from ! (stop !)) (init ! 4 refl (senders .typed 𝓤 H A W h was)) $
-        use0 W (raw (At 𝓤 H A mem′ run .pre to-at)) (goes-at fits was) $
-        calls-at ! fm (At 𝓤 H A mem′ run) known-at to-at (and-then ! (copied ! 5 refl) (and-then ! (copied ! 47 refl) (no-more !))) (λ w₉.
+        use0 W (raw (At 𝓤 H A mem′ run .pre (with-two senders sizes h t))) (goes-at 𝓤 H A mem′ run W h was t (refl, fits)) $
+        calls-at ! fm (At 𝓤 H A mem′ run) known-at (with-two senders sizes h t) (and-then ! (copied ! 5 refl) (and-then ! (copied ! 47 refl) (no-more !))) (λ w₉.
         returned senders ! (‵ ftrue) (lasts at.ended tt (h, (t, tt))) (λ s' _. s' ≡ recordAt h t) (id⊢ 𝓤 _) (λ s' _ es iss. drop ! $ drop ! $
         land ! (from ! (stop !)) (init ! 6 refl (senders .typed 𝓤 H A W s' iss)) $
         assigns ! (of-opd ! (copied ! 6 refl)) (from ! (hop ! (look ! 48 refl) (stop !))) (store-raw ! 0 refl (senders .typed 𝓤 H A W s' iss)) $
@@ -348,8 +256,8 @@ module _ {M : Type 1} (𝓤 : URA M) (H : Heap 𝓤) (A : Atoms 𝓤) (W : Given
         by ! (exits fits s' (p .now) Quiet (subst (λ (k : Sender). Does Quiet k (p .now)) (sym es) (early-is h (x .now) t (p .now) j (subst Holds eg early) ej)) refl quiet-known))))
         (λ neither.
         -- refused
-        use0 W (raw (Refusing 𝓤 H A mem′ run .pre (to-refuse j))) (goes-refuse j isj) $
-        calls-at ! fm (Refusing 𝓤 H A mem′ run) known-refusing (to-refuse j) (and-then ! (copied ! 41 refl) (no-more !)) (λ w₁₀.
+        use0 W (raw (Refusing 𝓤 H A mem′ run .pre (with-one judgements j))) (goes-refuse 𝓤 H A mem′ run W j isj) $
+        calls-at ! fm (Refusing 𝓤 H A mem′ run) known-refusing (with-one judgements j) (and-then ! (copied ! 41 refl) (no-more !)) (λ w₁₀.
         returned answers ! (‵ ftrue) (lasts refusing.ended tt (j, tt)) (λ r _. r ≡ refusedBy j) (id⊢ 𝓤 _) (λ r _ er is. drop ! $ drop ! $
         land ! (from ! (stop !)) (init ! 50 refl (answers .typed 𝓤 H A W r is)) $
         closes-whole senders ! tt h b o was $

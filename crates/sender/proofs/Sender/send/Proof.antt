@@ -40,17 +40,15 @@ use denote.Triple.Statement.{Contract, Triple}
 use denote.Triple.Table.{entered, cited}
 use denote.Triple.Walked.{says, Stays, stay-ref, stay-none, stay-none-ref, gave-slice, walkOf, goes-none, goes-none-ref, goes-ref, goes-gave-slice, ends-at, walked, walk-meets}
 use denote.Exit.{yes}
-use Rattle.base.proofs.Records.{Data, of-record, of-enum, of-uint, of-bool, Known, had, opens-whole, closes-whole, returned, copied, freed, unused, leaves-if}
+use Rattle.base.proofs.Records.{of-uint, Known, had, opens-whole, closes-whole, returned, copied, freed, unused, leaves-if}
 use Rattle.slots.specs.Slots.{textsSize}
+use Rattle.sender.proofs.Asked.{senders, answers, bools, sizes, with-one, with-two, BySize, goes-by-size, IsQuiet, goes-quiet, IsSent, goes-sent, At, goes-at, After, goes-after}
 use Rattle.sender.specs.declared.Sender.{Sender}
 use Rattle.writer.specs.declared.Answer.{Answer}
 use Rattle.writer.specs.Draft.{answerBy, isQuiet, isSent}
 use Rattle.sender.specs.Clocking.{recordAt, recordAfter, recordBehind, Sends}
 use Rattle.sender.proofs.Chosen.{behind-quiet, behind-sent, behind-refused}
-use Rattle.writer.proofs.Answer as N
-use Rattle.writer.proofs.Answer.Laws as N′
 use Rattle.sender.proofs.Sender as S
-use Rattle.sender.proofs.Sender.Laws as S′
 use Rattle.sender.proofs.clocking.put as putting
 use Rattle.sender.proofs.clocking.put.Symbol as putting-def
 use Rattle.sender.proofs.clocking.put.Symbol.{name as #sender·clocking·put}
@@ -80,18 +78,6 @@ use Rattle.sender.proofs.Sender.send as this
 use Rattle.sender.proofs.Sender.send.Statement as stated
 use Rattle.sender.proofs.Sender.send.Code as code
 
-abbrev senders : Data
-senders = of-record S.the-type S′.the-laws S′.the-plain
-
-abbrev answers : Data
-answers = of-enum N.the-type N′.the-laws N′.the-plain tt
-
-abbrev bools : Data
-bools = of-bool
-
-abbrev sizes : Data
-sizes = of-uint w64
-
 abbrev Lent : RattleType
 Lent = Array u8 textsSize
 
@@ -102,21 +88,6 @@ module _ {M : Type 1} (𝓤 : URA M) (H : Heap 𝓤) (A : Atoms 𝓤) (mem′ : 
   -- the contracts that the walk cites
   abbrev Putting : Contract 𝓤
   Putting = tripleOf 𝓤 H A putting.signature (putting.spec 𝓤 H A mem′ run)
-
-  abbrev BySize : Contract 𝓤
-  BySize = tripleOf 𝓤 H A by-size.signature (by-size.spec 𝓤 H A mem′ run)
-
-  abbrev IsQuiet : Contract 𝓤
-  IsQuiet = tripleOf 𝓤 H A is-quiet.signature (is-quiet.spec 𝓤 H A mem′ run)
-
-  abbrev IsSent : Contract 𝓤
-  IsSent = tripleOf 𝓤 H A is-sent.signature (is-sent.spec 𝓤 H A mem′ run)
-
-  abbrev At : Contract 𝓤
-  At = tripleOf 𝓤 H A at.signature (at.spec 𝓤 H A mem′ run)
-
-  abbrev After : Contract 𝓤
-  After = tripleOf 𝓤 H A after.signature (after.spec 𝓤 H A mem′ run)
 
 module _ {M : Type 1} (𝓤 : URA M) (H : Heap 𝓤) (A : Atoms 𝓤) (W : Given 𝓤 H A) (mem′ : Memory → SProp 𝓤) (run : Routine → Fun 𝓤) (κ κ₁ κ₂ : Lft) (q q₁ q₂ : Share) (b o : ℕ) (γ : GName) (h : Sender) (x : RefT (List ℕ)) (t : ℕ) (p : RefT (List ℕ)) (m : Bool) where
   abbrev u : Val
@@ -150,36 +121,6 @@ module _ {M : Type 1} (𝓤 : URA M) (H : Heap 𝓤) (A : Atoms 𝓤) (W : Given
   goes-put fits is =
       qed W (‵ Texts ∷ ‵ Packet ∷ (‵ (flft κ₁ q₁) ⊛ ‵ (flft κ₂ q₂) ⊛ ‵ ftrue) ∷ []) ∵ nothing ! $ had bools ! m refl $ fjoin ! $ move ! (2 ∷ 0 ∷ []) $ fjoin ! $ had (of-uint w64) ! t (refl, fits) $ fjoin ! $ move ! (1 ∷ 0 ∷ []) $ fjoin ! $ had senders ! h is $ fjoin ! $
       move ! (1 ∷ 0 ∷ []) $ join ! $ frame ! $ done !
-
-  abbrev to-by-size : ℕ → BySize 𝓤 H A mem′ run .Ghost
-  to-by-size n = ((tt, tt, tt, (n, (space, tt)), (vint w64 n ∷ [], (vint w64 space ∷ [], tt))), tt)
-
-  goes-by-size : space < 2 ^ 64 → (n : ℕ) → Known sizes n → ent 𝓤 (emp 𝓤) (BySize 𝓤 H A mem′ run .pre (to-by-size n))
-  goes-by-size room n is = qed W [] ∵ nothing ! $ had sizes ! space (refl, room) $ fjoin ! $ had sizes ! n is $ fjoin ! $ nothing ! $ join ! $ frame ! $ done !
-
-  abbrev to-quiet : Answer → IsQuiet 𝓤 H A mem′ run .Ghost
-  to-quiet r = ((tt, tt, tt, (r, tt), (answers .val r ∷ [], tt)), tt)
-
-  goes-quiet : (r : Answer) → Known answers r → ent 𝓤 (emp 𝓤) (IsQuiet 𝓤 H A mem′ run .pre (to-quiet r))
-  goes-quiet r is = qed W [] ∵ nothing ! $ had answers ! r is $ fjoin ! $ nothing ! $ join ! $ frame ! $ done !
-
-  abbrev to-sent : Answer → IsSent 𝓤 H A mem′ run .Ghost
-  to-sent r = ((tt, tt, tt, (r, tt), (answers .val r ∷ [], tt)), tt)
-
-  goes-sent : (r : Answer) → Known answers r → ent 𝓤 (emp 𝓤) (IsSent 𝓤 H A mem′ run .pre (to-sent r))
-  goes-sent r is = qed W [] ∵ nothing ! $ had answers ! r is $ fjoin ! $ nothing ! $ join ! $ frame ! $ done !
-
-  abbrev to-at : At 𝓤 H A mem′ run .Ghost
-  to-at = ((tt, tt, tt, (h, (t, tt)), (senders .val h ∷ [], (vint w64 t ∷ [], tt))), tt)
-
-  goes-at : t < 2 ^ 64 → Known senders h → ent 𝓤 (emp 𝓤) (At 𝓤 H A mem′ run .pre to-at)
-  goes-at fits is = qed W [] ∵ nothing ! $ had (of-uint w64) ! t (refl, fits) $ fjoin ! $ had senders ! h is $ fjoin ! $ nothing ! $ join ! $ frame ! $ done !
-
-  abbrev to-after : After 𝓤 H A mem′ run .Ghost
-  to-after = ((tt, tt, tt, (h, (t, tt)), (senders .val h ∷ [], (vint w64 t ∷ [], tt))), tt)
-
-  goes-after : t < 2 ^ 64 → Known senders h → ent 𝓤 (emp 𝓤) (After 𝓤 H A mem′ run .pre to-after)
-  goes-after fits is = qed W [] ∵ nothing ! $ had (of-uint w64) ! t (refl, fits) $ fjoin ! $ had senders ! h is $ fjoin ! $ nothing ! $ join ! $ frame ! $ done !
 
   abbrev Does : ℕ → Sender → List ℕ → Type 0
   Does n s' zs = Sends h (x .now) t (p .now) m n s' zs
@@ -217,19 +158,19 @@ module _ {M : Type 1} (𝓤 : URA M) (H : Heap 𝓤) (A : Atoms 𝓤) (W : Given
         -- [the packet's last bytes; the tokens; the texts; the sender's cell; the open borrow; obs; auth; _17; …; _0]
         land ! (from ! (stop !)) (init ! 29 refl (sizes .typed 𝓤 H A W n isn)) $
         assigns ! (of-opd ! (load ! (from ! (fld ! refl (stop !))) (look-in ! 33 (sub ! 1 refl (whole !))))) (from ! (stop !)) (init ! 19 refl (tt, record { fits = room .0 })) $
-        use0 W (raw (BySize 𝓤 H A mem′ run .pre (to-by-size n))) (goes-by-size (room .0) n isn) $
-        calls-at ! fm (BySize 𝓤 H A mem′ run) known-by-size (to-by-size n) (and-then ! (copied ! 30 refl) (and-then ! (copied ! 20 refl) (no-more !))) (λ w₁.
+        use0 W (raw (BySize 𝓤 H A mem′ run .pre (with-two sizes sizes n space))) (goes-by-size 𝓤 H A mem′ run W n isn space (refl, room .0)) $
+        calls-at ! fm (BySize 𝓤 H A mem′ run) known-by-size (with-two sizes sizes n space) (and-then ! (copied ! 30 refl) (and-then ! (copied ! 20 refl) (no-more !))) (λ w₁.
         returned answers ! (‵ ftrue) (lasts by-size.ended tt (n, (space, tt))) (λ r _. r ≡ answerBy n space) (id⊢ 𝓤 _) (λ r _ er is. drop ! $ drop ! $
         land ! (from ! (stop !)) (init ! 27 refl (answers .typed 𝓤 H A W r is)) $
-        use0 W (raw (IsQuiet 𝓤 H A mem′ run .pre (to-quiet r))) (goes-quiet r is) $
-        calls-at ! fm (IsQuiet 𝓤 H A mem′ run) known-is-quiet (to-quiet r) (and-then ! (copied ! 28 refl) (no-more !)) (λ w₂.
+        use0 W (raw (IsQuiet 𝓤 H A mem′ run .pre (with-one answers r))) (goes-quiet 𝓤 H A mem′ run W r is) $
+        calls-at ! fm (IsQuiet 𝓤 H A mem′ run) known-is-quiet (with-one answers r) (and-then ! (copied ! 28 refl) (no-more !)) (λ w₂.
         returned bools ! (‵ ftrue) (lasts is-quiet.ended tt (r, tt)) (λ y _. y ≡ isQuiet r) (id⊢ 𝓤 _) (λ y _ ey isy. drop ! $ drop ! $
         land ! (from ! (stop !)) (init ! 17 refl (bools .typed 𝓤 H A W y isy)) $
         leaves-if ! (copied ! 17 refl) (λ held.
         -- quiet
         assigns ! (of-opd ! (load ! (from ! (hop ! (look ! 39 refl) (stop !))) (look-raw ! 3 refl))) (from ! (stop !)) (init ! 13 refl (senders .typed 𝓤 H A W h was)) $
-        use0 W (raw (At 𝓤 H A mem′ run .pre to-at)) (goes-at fits was) $
-        calls-at ! fm (At 𝓤 H A mem′ run) known-at to-at (and-then ! (copied ! 14 refl) (and-then ! (copied ! 36 refl) (no-more !))) (λ w₃.
+        use0 W (raw (At 𝓤 H A mem′ run .pre (with-two senders sizes h t))) (goes-at 𝓤 H A mem′ run W h was t (refl, fits)) $
+        calls-at ! fm (At 𝓤 H A mem′ run) known-at (with-two senders sizes h t) (and-then ! (copied ! 14 refl) (and-then ! (copied ! 36 refl) (no-more !))) (λ w₃.
         returned senders ! (‵ ftrue) (lasts at.ended tt (h, (t, tt))) (λ s' _. s' ≡ recordAt h t) (id⊢ 𝓤 _) (λ s' _ es iss. drop ! $ drop ! $
         land ! (from ! (stop !)) (init ! 15 refl (senders .typed 𝓤 H A W s' iss)) $
         assigns ! (of-opd ! (copied ! 15 refl)) (from ! (hop ! (look ! 39 refl) (stop !))) (store-raw ! 3 refl (senders .typed 𝓤 H A W s' iss)) $
@@ -238,15 +179,15 @@ module _ {M : Type 1} (𝓤 : URA M) (H : Heap 𝓤) (A : Atoms 𝓤) (W : Given
         returns-within ! Post refl (look ! 40 refl) $ freed ! 40 refl refl $ freed ! 38 refl refl $ freed ! 36 refl refl $ freed ! 34 refl refl $ freed ! 32 refl refl $ freed ! 30 refl refl $ freed ! 28 refl refl $ freed ! 26 refl refl $ freed ! 24 refl refl $ freed ! 22 refl refl $ freed ! 20 refl refl $ freed ! 18 refl refl $ freed ! 16 refl refl $ freed ! 14 refl refl $ freed ! 12 refl refl $ unused ! 10 refl refl $ unused ! 8 refl refl $ unused ! 6 refl refl $ free0 ! $
         keep ! (0 ∷ 1 ∷ 2 ∷ 3 ∷ 4 ∷ 5 ∷ []) $ by ! (exits fits s' (zs .1 .1 .1 .0) n (goes-on n r er s' (behind-quiet h t r (subst Holds ey held) ∙ sym es) (zs .1 .1 .1 .0) e) l isn))))
         (λ failed.
-        use0 W (raw (IsSent 𝓤 H A mem′ run .pre (to-sent r))) (goes-sent r is) $
-        calls-at ! fm (IsSent 𝓤 H A mem′ run) known-is-sent (to-sent r) (and-then ! (copied ! 28 refl) (no-more !)) (λ w₄.
+        use0 W (raw (IsSent 𝓤 H A mem′ run .pre (with-one answers r))) (goes-sent 𝓤 H A mem′ run W r is) $
+        calls-at ! fm (IsSent 𝓤 H A mem′ run) known-is-sent (with-one answers r) (and-then ! (copied ! 28 refl) (no-more !)) (λ w₄.
         returned bools ! (‵ ftrue) (lasts is-sent.ended tt (r, tt)) (λ z _. z ≡ isSent r) (id⊢ 𝓤 _) (λ z _ ez isz. drop ! $ drop ! $
         land ! (from ! (stop !)) (init ! 11 refl (bools .typed 𝓤 H A W z isz)) $
         leaves-if ! (copied ! 11 refl) (λ held.
         -- sent
         assigns ! (of-opd ! (load ! (from ! (hop ! (look ! 39 refl) (stop !))) (look-raw ! 3 refl))) (from ! (stop !)) (init ! 7 refl (senders .typed 𝓤 H A W h was)) $
-        use0 W (raw (After 𝓤 H A mem′ run .pre to-after)) (goes-after fits was) $
-        calls-at ! fm (After 𝓤 H A mem′ run) known-after to-after (and-then ! (copied ! 8 refl) (and-then ! (copied ! 36 refl) (no-more !))) (λ w₅.
+        use0 W (raw (After 𝓤 H A mem′ run .pre (with-two senders sizes h t))) (goes-after 𝓤 H A mem′ run W h was t (refl, fits)) $
+        calls-at ! fm (After 𝓤 H A mem′ run) known-after (with-two senders sizes h t) (and-then ! (copied ! 8 refl) (and-then ! (copied ! 36 refl) (no-more !))) (λ w₅.
         returned senders ! (‵ ftrue) (lasts after.ended tt (h, (t, tt))) (λ s' _. s' ≡ recordAfter h t) (id⊢ 𝓤 _) (λ s' _ es iss. drop ! $ drop ! $
         land ! (from ! (stop !)) (init ! 9 refl (senders .typed 𝓤 H A W s' iss)) $
         assigns ! (of-opd ! (copied ! 9 refl)) (from ! (hop ! (look ! 39 refl) (stop !))) (store-raw ! 3 refl (senders .typed 𝓤 H A W s' iss)) $
