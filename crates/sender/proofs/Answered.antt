@@ -18,7 +18,7 @@ use Rattle.sender_spec.specs.State.{hasText}
 use Rattle.sender_spec.specs.Settings.{settingsNumber}
 use Rattle.sender_spec.specs.Answers.{ClockAnswer, refused, quiet, sent, ClockResult}
 use Rattle.sender_spec.specs.Packets.{carried, anyText, readyAt, packetBytes, afterPacket}
-use Rattle.sender_spec.specs.Clocking.{senderAt, clockRefused, clockQuiet, clockSent, spaceChecks, clockOf}
+use Rattle.sender_spec.specs.Calls.{clockOf, clockSent, clockQuiet, senderAt, clockRefused, spaceChecks}
 use Rattle.settings.specs.declared.Judged.{Judged}
 use Rattle.settings.specs.declared.Judged.the-variants as Judgements
 use Rattle.settings.specs.Judging as Judging
