@@ -7,7 +7,7 @@ pub mod PartOf
 pub mod Stores
 pub mod Filled
 pub mod Maps
-pub mod Every
+pub mod EveryLaws
 pub mod Lent
 pub mod Pasted
 pub mod Written

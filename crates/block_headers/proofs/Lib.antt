@@ -1,2 +1,2 @@
-pub mod Within
-pub mod Told
+pub mod HeadersByFacts
+pub mod AnswerTells

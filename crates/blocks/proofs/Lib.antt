@@ -1,3 +1,3 @@
-pub mod Parts
+pub mod BlockWalk
 pub mod Outcomes
-pub mod Whole
+pub mod SeenByFacts

@@ -1,2 +1,2 @@
-pub mod Behind
-pub mod Held
+pub mod RecordsLeft
+pub mod RecordHolds

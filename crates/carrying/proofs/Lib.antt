@@ -1,2 +1,2 @@
-pub mod Young
-pub mod Total
+pub mod YoungRun
+pub mod TextTotal

@@ -10,8 +10,8 @@ use Rattle.delivery.specs.Record.{Entry, block}
 use Rattle.delivery.specs.Sending.{BlockSender}
 use Rattle.delivery.specs.Claim.{Near, newestOnArrival, entry, expectedRecord}
 use Rattle.delivery.specs.internal.Core.{fresh, expects, addsAt, adds, recordFrom, sent, InOrder}
-use Rattle.delivery.proofs.Counts.{first-adds, forward-adds}
-use Rattle.delivery.proofs.Wrap.{course-forward, course-late}
+use Rattle.delivery.proofs.EntryCount.{first-adds, forward-adds}
+use Rattle.delivery.proofs.WrappedDistance.{course-forward, course-late}
 use Rattle.delivery.proofs.Ranges.{length-map-range}
 use Rattle.delivery.proofs.Delivered.{delivered}
 

@@ -1,8 +1,8 @@
-pub mod Entries
-pub mod Runs
+pub mod MarkIsNoBlock
+pub mod OldestBlock
 pub mod Examples
-pub mod Counts
-pub mod Wrap
+pub mod EntryCount
+pub mod WrappedDistance
 pub mod Ranges
 pub mod Arrivals
 pub mod Delivered

@@ -23,8 +23,8 @@ use Rattle.demands.specs.Demand2.{ReadBack}
 use Rattle.delivery.proofs.NoLoss.{before, adds-own, after-own}
 use Rattle.receiver_spec.proofs.Core.{packetOf, state, step-adds, step-after, keeps-types}
 use Rattle.receiver_spec.proofs.OneEach.{OneEach, none, one}
-use Rattle.sender_spec.proofs.Good.{fresh-good}
-use Rattle.demands.proofs.Follow.{Move, still, moved, sends, move, rules, Packets}
+use Rattle.sender_spec.proofs.StaysSendable.{fresh-good}
+use Rattle.demands.proofs.FollowsLog.{Move, still, moved, sends, move, rules, Packets}
 use Rattle.demands.proofs.Demand2.{read-by, good-back}
 use Rattle.demands.proofs.Recorded.{is-sent}
 use Rattle.demands.proofs.OursKeeps.{log-rises, small, packets}

@@ -28,7 +28,7 @@ use Rattle.demands.specs.Ours.{ours}
 use Rattle.demands.specs.Demand1.{OnlyClock, Demand1}
 use Rattle.base.proofs.InOrder.{checked-of, refused-by}
 use Rattle.sender_spec.proofs.Calls as calls
-use Rattle.sender_spec.proofs.Accepted.{open-passed, clock-passed}
+use Rattle.sender_spec.proofs.ChecksPassed.{open-passed, clock-passed}
 use Rattle.sender_spec.proofs.Shapes as shapes
 use Rattle.sender_spec.proofs.Shapes.{Offer, Clock, offer-shape, clock-shape}
 

@@ -29,15 +29,15 @@ use Rattle.demands.specs.Ours.{ours}
 use Rattle.demands.specs.Sending.{Call, offer, clock, Written, primarySent, writtenBy, acceptedText, writes, offers, senderAfter, written, typed, finally}
 use Rattle.demands.specs.Demand2.{ReadBack, Demand2}
 use Rattle.text_spec.proofs.WellFormed.{characters-are-letters, letters-are-characters}
-use Rattle.packet_spec.proofs.Lies.{lies, block-is}
+use Rattle.packet_spec.proofs.BlocksLie.{lies, block-is}
 use Rattle.receiver_spec.proofs.Core.{accepts}
 use Rattle.sender_spec.proofs.Calls.{clock-sent}
-use Rattle.sender_spec.proofs.Accepted.{open-passed, clock-passed}
-use Rattle.sender_spec.proofs.Good.{Good, fresh-good, offer-good, clock-good}
+use Rattle.sender_spec.proofs.ChecksPassed.{open-passed, clock-passed}
+use Rattle.sender_spec.proofs.StaysSendable.{Good, fresh-good, offer-good, clock-good}
 use Rattle.sender_spec.proofs.ReadsBack.{reads-back}
 use Rattle.sender_spec.proofs.Shapes as shapes
 use Rattle.sender_spec.proofs.Shapes.{Offer, Clock, offer-shape, clock-shape}
-use Rattle.demands.proofs.Follow.{Move, still, moved, sends, move}
+use Rattle.demands.proofs.FollowsLog.{Move, still, moved, sends, move}
 
 after-good : (s : Sender) (c : Call) → Good s → Good (senderAfter ours s c)
 after-good s (offer t x) g = offer-good s t x g

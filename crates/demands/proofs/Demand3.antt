@@ -18,8 +18,8 @@ use Rattle.demands.specs.Sending.{Call, primarySent, written, finally, s
 use Rattle.demands.specs.Demand3.{rulesOf, packetAt, SpacedAfter, Demand3}
 use Rattle.receiver_spec.proofs.OneEach.{OneEach, all-accepted, no-mark}
 use Rattle.receiver_spec.proofs.TextGiven.{text-is-blocks}
-use Rattle.sender_spec.proofs.Accepted.{open-passed}
-use Rattle.sender_spec.proofs.Passed.{settings-good}
+use Rattle.sender_spec.proofs.ChecksPassed.{open-passed}
+use Rattle.sender_spec.proofs.SettingsPass.{settings-good}
 use Rattle.demands.proofs.Demand1.{receiver-opened}
 use Rattle.demands.proofs.Recorded.{recorded}
 use Rattle.demands.proofs.OursKeeps.{keeps, spaced}

@@ -1,5 +1,5 @@
-pub mod Log
-pub mod Follow
+pub mod KeptIsLog
+pub mod FollowsLog
 pub mod Demand1
 pub mod Demand2
 pub mod Recorded

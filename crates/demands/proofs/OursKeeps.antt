@@ -22,9 +22,9 @@ use Rattle.demands.specs.Demand2.{ReadBack}
 use Rattle.demands.specs.Demand3.{rulesOf, packetAt, SpacedAfter}
 use Rattle.base.specs.Every.{Every}
 use Rattle.base.proofs.Maps.{getD-map, getD-map-inside}
-use Rattle.sender_spec.proofs.Good.{fresh-good}
-use Rattle.sender_spec.proofs.Passed.{settings-good}
-use Rattle.demands.proofs.Follow.{blockOf, Move, still, moved, sends, move, logFrom, rises, rules, At, Packets, follow}
+use Rattle.sender_spec.proofs.StaysSendable.{fresh-good}
+use Rattle.sender_spec.proofs.SettingsPass.{settings-good}
+use Rattle.demands.proofs.FollowsLog.{blockOf, Move, still, moved, sends, move, logFrom, rises, rules, At, Packets, follow}
 use Rattle.demands.proofs.Demand2.{good-back}
 
 -- packets leave at least the buffering time apart

@@ -12,7 +12,7 @@ use Rattle.receiver_spec.specs.State.{freshReceiver, Receiver}
 use Rattle.receiver_spec.specs.Step.{stepOf}
 use Rattle.receiver_spec.specs.Record.{recordOf, acceptedOf}
 use Rattle.demands.specs.Rules.{IsPacket, KeepsRules}
-use Rattle.delivery.proofs.Runs.{senderOf-in-order}
+use Rattle.delivery.proofs.OldestBlock.{senderOf-in-order}
 use Rattle.delivery.proofs.Delivered.{delivered}
 use Rattle.receiver_spec.proofs.Core.{packetOf, same-record, same-packets}
 use Rattle.demands.proofs.Demand1.{receiver-opened}

@@ -20,7 +20,7 @@ use Rattle.receiver.specs.View.{stepAnswer}
 use Rattle.receiver_spec.specs.Step.{textGiven}
 use Rattle.receiver_spec.specs.Answers.{gives, isLate, refuses, StepAnswer}
 use Rattle.receiver_spec.specs.Record.{lossOf}
-use Rattle.receiver_spec.proofs.Within.{Within}
+use Rattle.receiver_spec.proofs.GivenWithin.{Within}
 use Rattle.journal_spec.specs.Contents.{longestPacket}
 use Rattle.due.specs.declared.Due.{Due}
 use Rattle.due.specs.Due.{emptyDue, lineDue, dueOf, noneDue, dueWithin, textDue}

@@ -25,7 +25,7 @@ use Rattle.receiver_spec.specs.Opening as Openings
 use Rattle.receiver_spec.specs.Step.{stepOf, textGiven}
 use Rattle.receiver_spec.specs.Answers.{StepAnswer}
 use Rattle.receiver_spec.specs.Record.{lossOf}
-use Rattle.receiver_spec.proofs.Within.{Within, given-lies}
+use Rattle.receiver_spec.proofs.GivenWithin.{Within, given-lies}
 use Rattle.counts.specs.declared.Counts.{Counts}
 use Rattle.counts.specs.Counts.{counted, lineOf, OneMore}
 use Rattle.due.specs.declared.Due.{Due}

@@ -16,7 +16,7 @@ use Rattle.receiver_spec.specs.Record.{blocksGiven, entriesOf}
 use Rattle.journal_spec.specs.Contents.{packetsThenEnd, wholeOf, journalOf}
 use Rattle.journal_spec.specs.Lines.{countsLine, brokenLine}
 use Rattle.journal_spec.specs.Transcript.{packetsIn, isWhole, answersOf, printedText, howMany, lostIn, lineFor, printed, transcript}
-use Rattle.delivery.proofs.Entries.{mark-is-no-block}
+use Rattle.delivery.proofs.MarkIsNoBlock.{mark-is-no-block}
 use Rattle.receiver_spec.proofs.OneEach.{OneEach, none, one, no-mark}
 use Rattle.journal_spec.proofs.Record.{writtenRecord, written-blocks, text-is-record}
 

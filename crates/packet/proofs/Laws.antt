@@ -20,8 +20,8 @@ use Rattle.packet_spec.specs.Redundancy.{Block, blocksOf, joined}
 use Rattle.packet_spec.specs.Reading.{Content, blocks, startsAt}
 use Rattle.packet.specs.Places.{none, placesFrom, placed, startOf, blockOf}
 use Rattle.base.proofs.PartOf.{part-slice}
-use Rattle.packet_spec.proofs.Runs.{reach, reach-total, run-fills}
-use Rattle.packet_spec.proofs.Lies.{Lies, blocks-length}
+use Rattle.packet_spec.proofs.BlockRuns.{reach, reach-total, run-fills}
+use Rattle.packet_spec.proofs.BlocksLie.{Lies, blocks-length}
 
 -- the places of a packet's blocks
 older-at : (at : ℕ) (older : List Block) (primary : List ℕ) (k : ℕ) → k < length older → getD (placesFrom at older) k none .at ≡ at + reach (blocksOf older primary) k

@@ -1,8 +1,8 @@
 pub mod Payload
-pub mod Heads
-pub mod Order
+pub mod HeadersByFacts
+pub mod CheckOrder
 pub mod Accepted
-pub mod Runs
-pub mod Lies
-pub mod Numbers
+pub mod BlockRuns
+pub mod BlocksLie
+pub mod RefusalNumbers
 pub mod ReadBack

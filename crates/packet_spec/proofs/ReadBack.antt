@@ -15,8 +15,8 @@ use Rattle.packet_spec.specs.Reading.{Content, holds, refused, content, 
 use Rattle.packet_spec.specs.Encoding.{markerBit, headerBytes, headBytes, headsBytes, plainBytes, redundantBytes, Admits}
 use Rattle.base.specs.Every.{Every}
 use Rattle.base.proofs.Tests.{and-false, or-left, or-right}
-use Rattle.packet_spec.proofs.Heads.{last, one-more}
-use Rattle.packet_spec.proofs.Order.{from, past-3, past-12, past-14, past-16, past-21}
+use Rattle.packet_spec.proofs.HeadersByFacts.{last, one-more}
+use Rattle.packet_spec.proofs.CheckOrder.{from, past-3, past-12, past-14, past-16, past-21}
 
 -- the headers of a payload s
 abbrev headsBy : ℕ → ℕ → List ℕ → List ℕ → Heads

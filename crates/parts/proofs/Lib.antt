@@ -1,5 +1,5 @@
 pub mod Spans
-pub mod Agree
+pub mod BytesTellRecords
 pub mod Laws
 pub mod Zeros
 pub mod Sound

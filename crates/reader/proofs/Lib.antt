@@ -1,2 +1,2 @@
-pub mod Inverted
+pub mod AnswerToReading
 pub mod Placed

@@ -24,10 +24,10 @@ use Rattle.blocks.specs.internal.Seen.{refusedBlocks, placedBlocks, seenBehind,
 use Rattle.base.specs.Checks.{numberBy}
 use Rattle.base.proofs.InOrder.{number-first, refused-by, passed-by, none-applies}
 use Rattle.packet_spec.proofs.Payload.{payload-inside}
-use Rattle.packet_spec.proofs.Numbers.{Positive, reading-positive}
-use Rattle.packet_spec.proofs.Runs.{cut-joined}
-use Rattle.packet_spec.proofs.Lies.{older-length, lies}
-use Rattle.blocks.proofs.Whole.{inside}
+use Rattle.packet_spec.proofs.RefusalNumbers.{Positive, reading-positive}
+use Rattle.packet_spec.proofs.BlockRuns.{cut-joined}
+use Rattle.packet_spec.proofs.BlocksLie.{older-length, lies}
+use Rattle.blocks.proofs.SeenByFacts.{inside}
 
 older-places : (at : ℕ) (hs : List Head) (s : List ℕ) → total hs ≤ length s → placesFrom at (olderOf hs s) ≡ headPlaces at hs
 older-places at [] s f = refl

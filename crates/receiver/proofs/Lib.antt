@@ -1,4 +1,4 @@
-pub mod Same
-pub mod Sign
+pub mod ViewSaysAll
+pub mod SignedDistance
 pub mod Steps
 pub mod Advancing

@@ -23,11 +23,11 @@ use Rattle.receiver_spec.specs.Distance.{signed}
 use Rattle.receiver_spec.specs.Step.{movedTo, givenFrom, stepRead, firstStep, stepBy, stepOf}
 use Rattle.receiver_spec.specs.Answers.{Step, gives, refuses}
 use Rattle.receiver.specs.internal.Accepted.{followed, laterBy, laterAccepted, acceptedStep}
-use Rattle.packet_spec.proofs.Numbers.{reading-positive}
-use Rattle.packet_spec.proofs.Runs.{reach, joined-split}
-use Rattle.packet_spec.proofs.Lies.{Lies, lies, few, blocks-length}
+use Rattle.packet_spec.proofs.RefusalNumbers.{reading-positive}
+use Rattle.packet_spec.proofs.BlockRuns.{reach, joined-split}
+use Rattle.packet_spec.proofs.BlocksLie.{Lies, lies, few, blocks-length}
 use Rattle.packet.proofs.Laws.{start-at}
-use Rattle.reader.proofs.Inverted.{was-refused, was-accepted}
+use Rattle.reader.proofs.AnswerToReading.{was-refused, was-accepted}
 
 module _ (r : Receiver) (k : Packet) where
   pub later-step : r .hasSource ≡ true → laterAccepted r k (distance (k .sequence) (r .expected)) ≡ acceptedStep r k

@@ -18,7 +18,7 @@ use Rattle.delivery.specs.internal.Core.{sent}
 use Rattle.receiver_spec.specs.Step.{stepRead, firstStep, stepBy, stepOf}
 use Rattle.receiver_spec.specs.Record.{blocksIn, blocksGiven, entriesOf, recordOf, acceptedOf}
 use Rattle.receiver_spec.specs.Answers.{isAccepted}
-use Rattle.receiver_spec.proofs.Blocks.{last-snoc, read-by-any}
+use Rattle.receiver_spec.proofs.AcceptedBlocks.{last-snoc, read-by-any}
 
 -- a packet as the core has it
 abbrev pub packetOf : Content → core.Packet

@@ -1,6 +1,6 @@
-pub mod Blocks
+pub mod AcceptedBlocks
 pub mod TextGiven
-pub mod Within
+pub mod GivenWithin
 pub mod Core
 pub mod MarkTests
 pub mod OneEach

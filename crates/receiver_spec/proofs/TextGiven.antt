@@ -18,7 +18,7 @@ use Rattle.receiver_spec.specs.Answers.{gives}
 use Rattle.receiver_spec.specs.Distance.{signed}
 use Rattle.receiver_spec.specs.Record.{blocksIn, blocksGiven}
 use Rattle.base.proofs.PartOf.{part-slice}
-use Rattle.packet_spec.proofs.Lies.{lies, rest-fills}
+use Rattle.packet_spec.proofs.BlocksLie.{lies, rest-fills}
 
 module _ (r : Receiver) (p : List ℕ) (c : Content) (e : readBy r p ≡ holds c) where
   -- the part of the packet that is handed out is the blocks given, joined

@@ -1,6 +1,6 @@
-pub mod Lent
+pub mod LentBuffer
 pub mod Turns
 pub mod SingleBytes
 pub mod Pieces
-pub mod Runs
+pub mod TurnsInOrder
 pub mod WholePieces

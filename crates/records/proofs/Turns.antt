@@ -24,7 +24,7 @@ use Rattle.parts.proofs.Laws.{Moves, piece-part, piece-end, time-part, time-end
 use Rattle.parts.specs.Sound.{wholePieces, soundAt}
 use Rattle.parts.proofs.Sound.{whole, whole-is}
 use Rattle.reading.proofs.Sound.{small, at-part}
-use Rattle.records.proofs.Lent.{Growing, grows-end, lends-put}
+use Rattle.records.proofs.LentBuffer.{Growing, grows-end, lends-put}
 
 -- nothing was put into the buffer
 pub went : {r r' : Reader} {p s : List ℕ} {used : ℕ} → sound r' ≡ true → used ≤ length s

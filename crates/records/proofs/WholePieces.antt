@@ -21,7 +21,7 @@ use Rattle.base.proofs.Tests.{both}
 use Rattle.parts.proofs.Sound.{whole-is}
 use Rattle.reading.proofs.Sound.{small, at-part}
 use Rattle.parts.proofs.Zeros.{behind}
-use Rattle.records.proofs.Lent.{grows-end}
+use Rattle.records.proofs.LentBuffer.{grows-end}
 use Rattle.records.proofs.Turns.{went, went-put, some-used, sound-end}
 
 module _ (r : Reader) (p s : List ℕ) (e : r .part ≡ Kind) (ok : sound r ≡ true) (big : longestPacket ≤ length p) where

@@ -13,7 +13,7 @@ use Rattle.packet_spec.specs.Encoding.{plainBytes, redundantBytes}
 use Rattle.packet_spec.proofs.ReadBack.{types-small}
 use Rattle.sender_spec.specs.Settings.{settingsNumber}
 use Rattle.sender_spec.specs.Packets.{contentOf, packetBytes}
-use Rattle.sender_spec.proofs.Passed.{settings-good}
+use Rattle.sender_spec.proofs.SettingsPass.{settings-good}
 use Rattle.slots.specs.Slots.{textsSize}
 use Rattle.slots.proofs.Slots.{waiting-some}
 use Rattle.writer.specs.Draft as Draft

@@ -1,7 +1,7 @@
 pub mod Ring
-pub mod Behind
+pub mod AfterClockCall
 pub mod Joined
 pub mod Drafted
-pub mod Answered
-pub mod Chosen
-pub mod Asked
+pub mod ClockAnswered
+pub mod RecordLeft
+pub mod PlainCalls

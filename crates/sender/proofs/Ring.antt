@@ -10,7 +10,7 @@ use Rattle.sender_spec.specs.State.{SentBlock}
 use Rattle.slots.specs.Slots.{slots, slotOf, slotText, waitingIn}
 use Rattle.writer.specs.Draft.{blocksFrom, keptIn}
 use Rattle.slots.proofs.Slots.{onward, slot-on, slot-newest}
-use Rattle.writer.proofs.Kept.{take-least}
+use Rattle.writer.proofs.KeptBlocks.{take-least}
 
 module _ (texts : List ℕ) (room : ℕ) where
   blocks-on : (back : ℕ) (lens ats : List ℕ) → back + length lens ≤ slots → blocksFrom texts (onward room) (suc back) lens ats ≡ blocksFrom texts room back lens ats

@@ -13,8 +13,8 @@ use Rattle.sender_spec.specs.State.{SentBlock, Sender}
 use Rattle.sender_spec.specs.Packets.{recent, recentRun, carried, repeated, contentOf}
 use Rattle.base.proofs.Tests.{by-test}
 use Rattle.base.specs.Every.{Every}
-use Rattle.base.proofs.Every.{every-take, every-reverse, every-map}
-use Rattle.sender_spec.proofs.Good.{Sendable, AllSendable, Good}
+use Rattle.base.proofs.EveryLaws.{every-take, every-reverse, every-map}
+use Rattle.sender_spec.proofs.StaysSendable.{Sendable, AllSendable, Good}
 
 -- an older block of a packet
 abbrev pub Repeatable : Redundancy.Block → Type 0

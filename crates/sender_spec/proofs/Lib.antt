@@ -1,10 +1,10 @@
 pub mod Tables
 pub mod CaseTests
 pub mod Calls
-pub mod Passed
-pub mod Accepted
+pub mod SettingsPass
+pub mod ChecksPassed
 pub mod Shapes
-pub mod Good
+pub mod StaysSendable
 pub mod Sizes
 pub mod Carried
 pub mod ReadsBack

@@ -14,10 +14,10 @@ use Rattle.sender_spec.specs.Packets.{contentOf, packetBytes}
 use Rattle.base.proofs.Tests.{by-test}
 use Rattle.packet_spec.proofs.ReadBack.{types-small}
 use Rattle.base.specs.Every.{Every}
-use Rattle.base.proofs.Every.{every-append}
+use Rattle.base.proofs.EveryLaws.{every-append}
 use Rattle.sender_spec.proofs.TextBytes.{AllBytes, text-bytes}
-use Rattle.sender_spec.proofs.Good.{Sendable, Good, taken-good}
-use Rattle.sender_spec.proofs.Passed.{settings-good}
+use Rattle.sender_spec.proofs.StaysSendable.{Sendable, Good, taken-good}
+use Rattle.sender_spec.proofs.SettingsPass.{settings-good}
 use Rattle.sender_spec.proofs.Carried.{Repeatable, older-good}
 
 both-bytes : (x y : List ℕ) → AllBytes x → AllBytes y → AllBytes (x ++ y)

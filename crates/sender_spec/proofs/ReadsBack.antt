@@ -19,8 +19,8 @@ use Rattle.sender_spec.specs.Packets.{recentRun, repeated, contentOf, pa
 use Rattle.base.proofs.Tests.{by-test}
 use Rattle.packet_spec.proofs.ReadBack.{plain-back, redundant-back}
 use Rattle.base.specs.Every.{Every}
-use Rattle.sender_spec.proofs.Good.{Sendable, Good, taken-good}
-use Rattle.sender_spec.proofs.Passed.{settings-good}
+use Rattle.sender_spec.proofs.StaysSendable.{Sendable, Good, taken-good}
+use Rattle.sender_spec.proofs.SettingsPass.{settings-good}
 use Rattle.sender_spec.proofs.Sizes.{Short, plain-fits, packet-fits, lengths-fit}
 use Rattle.sender_spec.proofs.Carried.{Repeatable, older-few, older-good}
 

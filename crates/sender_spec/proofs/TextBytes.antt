@@ -9,7 +9,7 @@ use Rattle.text_spec.specs.WellFormed.{Matches, end, byte, Letters, empty, more
 use Rattle.text_spec.proofs.Table.{bounds}
 use Rattle.text_spec.proofs.TextJoin.{text-letters}
 use Rattle.base.specs.Every.{Every}
-use Rattle.base.proofs.Every.{every-append, every-one}
+use Rattle.base.proofs.EveryLaws.{every-append, every-one}
 
 abbrev pub AllBytes : List ℕ → Type 0
 AllBytes x = Every (λ (b : ℕ). b < 256) x

@@ -9,7 +9,7 @@ use lib.ListN.{length, take, drop, take-append-drop}
 use Rattle.receiver_spec.specs.Marks.{marks}
 use Rattle.parts.specs.declared.Part.the-variants.{Broken}
 use Rattle.parts.specs.Bytes.{going, tells}
-use Rattle.parts.proofs.Agree.{agree}
+use Rattle.parts.proofs.BytesTellRecords.{agree}
 use Rattle.journal_spec.specs.Lines.{brokenLine}
 use Rattle.journal_spec.specs.Transcript.{transcript}
 use Rattle.standing.specs.Standing.{Standing, startStanding, closed, nothingDue, stopOf, finished}

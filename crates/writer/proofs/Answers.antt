@@ -18,7 +18,7 @@ use Rattle.writer.specs.Draft.{Result, answerBy, putOf}
 use Rattle.carrying.specs.internal.Young.{youngRun, textTotal}
 use Rattle.slots.specs.Slots.{textsSize}
 use Rattle.writer.specs.internal.Parts.{packetWith, packetSize}
-use Rattle.writer.proofs.Whole.{packet-is, size-is, some-is}
+use Rattle.writer.proofs.PacketByParts.{packet-is, size-is, some-is}
 
 -- a packet has a header
 size-some : (R n older primary : ℕ) → 0 < packetSize R n older primary

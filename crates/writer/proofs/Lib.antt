@@ -1,5 +1,5 @@
 pub mod Slots
 pub mod TextsSize
-pub mod Kept
-pub mod Whole
+pub mod KeptBlocks
+pub mod PacketByParts
 pub mod Answers

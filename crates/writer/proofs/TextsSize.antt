@@ -6,7 +6,7 @@ use native.Mathlib.Omega.{arith}
 use lib.ListN.{length, take, getD, length-append}
 use Rattle.sender_spec.specs.Limits.{roomSize}
 use Rattle.carrying.specs.internal.Young.{textTotal}
-use Rattle.carrying.proofs.Total.{total-more}
+use Rattle.carrying.proofs.TextTotal.{total-more}
 use Rattle.heading.proofs.LastFirst.{last-none, last-more}
 use Rattle.slots.specs.Slots.{textsSize}
 use Rattle.writer.specs.internal.Parts.{textAt, waitingAt, textsOf}

@@ -9,7 +9,7 @@ use denote.Ref.{now}
 use Rattle.base.specs.Arrays.{filled}
 use Rattle.packet_spec.specs.Limits.{level}
 use Rattle.block_headers.specs.internal.Seen.{seenHead, noHead, seenBefore, headersOf}
-use Rattle.block_headers.proofs.Within.{crossed, outside, none-inside, some-inside}
+use Rattle.block_headers.proofs.HeadersByFacts.{crossed, outside, none-inside, some-inside}
 use Rattle.block_headers.proofs.read.Statement.{statement}
 use Rattle.block_headers.proofs.read.Tie as tie
 

@@ -13,7 +13,7 @@ use Rattle.base.specs.Arrays.{filled}
 use Rattle.block_headers.specs.internal.Seen.{seenHead, seenHeads, noHead, seenBefore}
 use Rattle.base.proofs.Filled.{filled-more}
 use Rattle.base.proofs.Maps.{map-set}
-use Rattle.packet_spec.proofs.Heads.{at-end, at-last-other, at-last, at-too-many, at-cut-short, at-older-other, at-one-more}
+use Rattle.packet_spec.proofs.HeadersByFacts.{at-end, at-last-other, at-last, at-too-many, at-cut-short, at-older-other, at-one-more}
 use Rattle.block_headers.proofs.read_headers.Statement.{statement}
 use Rattle.block_headers.proofs.read_headers.Tie as tie
 

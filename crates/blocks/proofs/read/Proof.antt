@@ -5,8 +5,8 @@ use denote.Ref.{now}
 use Rattle.packet.specs.Refusal.{number}
 use Rattle.packet_spec.specs.Redundancy.{heads, bad}
 use Rattle.block_headers.specs.internal.Seen.{seenHeads}
-use Rattle.block_headers.proofs.Told.{refused-told, accepted-told}
-use Rattle.blocks.proofs.Whole.{behind}
+use Rattle.block_headers.proofs.AnswerTells.{refused-told, accepted-told}
+use Rattle.blocks.proofs.SeenByFacts.{behind}
 use Rattle.blocks.proofs.read.Statement.{statement}
 use Rattle.blocks.proofs.read.Tie as tie
 

@@ -17,9 +17,9 @@ use Rattle.packet_spec.specs.Limits.{level}
 use Rattle.packet.specs.Places.{none}
 use Rattle.blocks.specs.internal.Placing.{headPlaces}
 use Rattle.blocks.specs.internal.Seen.{blocksSeen, refusedBlocks, placedBlocks}
-use Rattle.packet_spec.proofs.Order.{gives-20, gives-21}
+use Rattle.packet_spec.proofs.CheckOrder.{gives-20, gives-21}
 use Rattle.blocks.proofs.Outcomes.{bad-text, good-text}
-use Rattle.blocks.proofs.Whole.{text-placed}
+use Rattle.blocks.proofs.SeenByFacts.{text-placed}
 use Rattle.blocks.proofs.read_blocks.Statement.{statement}
 use Rattle.blocks.proofs.read_blocks.Tie as tie
 

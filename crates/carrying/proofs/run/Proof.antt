@@ -8,8 +8,8 @@ use borrow.Author.Tests.{not-true, not-false}
 use Rattle.packet_spec.specs.Limits.{level}
 use Rattle.sender_spec.specs.Limits.{roomSize}
 use Rattle.carrying.specs.internal.Young.{youngRun, textTotal}
-use Rattle.carrying.proofs.Young.{run-more, run-stop, run-end}
-use Rattle.carrying.proofs.Total.{total-more}
+use Rattle.carrying.proofs.YoungRun.{run-more, run-stop, run-end}
+use Rattle.carrying.proofs.TextTotal.{total-more}
 use Rattle.carrying.proofs.run.Statement.{statement}
 use Rattle.carrying.proofs.run.Tie as tie
 

@@ -62,7 +62,7 @@ use Rattle.reader.proofs.read_from.Symbol as read-def
 use Rattle.reader.proofs.read_from.Symbol.{name as #reader·read-from}
 use Rattle.reader.proofs.read_from.Met as read-thm
 use Rattle.boundary.specs.Answers.{expectedOf, packetBehind}
-use Rattle.boundary.proofs.Behind.{packet-stays, packet-read}
+use Rattle.boundary.proofs.RecordsLeft.{packet-stays, packet-read}
 use Rattle.boundary.proofs.expected_of as expected-of
 use Rattle.boundary.proofs.expected_of.Symbol as expected-of-def
 use Rattle.boundary.proofs.expected_of.Symbol.{name as #boundary·expected-of}

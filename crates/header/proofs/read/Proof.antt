@@ -5,8 +5,8 @@ use denote.Ref.{now}
 use Rattle.packet_spec.specs.Header.{typesBad}
 use Rattle.packet.specs.Places.{expectedSource}
 use Rattle.header.specs.internal.Seen.{refusedHeader, passedHeader, headerOf}
-use Rattle.packet_spec.proofs.Order.{from, gives-3, past-3}
-use Rattle.layout.proofs.Told.{refused-told, passed-told, lies-told}
+use Rattle.packet_spec.proofs.CheckOrder.{from, gives-3, past-3}
+use Rattle.layout.proofs.AnswerTells.{refused-told, passed-told, lies-told}
 use Rattle.header.proofs.read.Statement.{statement}
 use Rattle.header.proofs.read.Tie as tie
 

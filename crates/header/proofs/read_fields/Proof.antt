@@ -6,7 +6,7 @@ use denote.Ref.{now}
 use Rattle.packet_spec.specs.Header.{markerOf, payloadType, otherType, otherSource}
 use Rattle.packet.specs.Places.{expectedSource}
 use Rattle.header.specs.internal.Seen.{refusedHeader, passedHeader}
-use Rattle.packet_spec.proofs.Order.{gives-15, gives-16, past-16}
+use Rattle.packet_spec.proofs.CheckOrder.{gives-15, gives-16, past-16}
 use Rattle.header.proofs.read_fields.Statement.{statement}
 use Rattle.header.proofs.read_fields.Tie as tie
 

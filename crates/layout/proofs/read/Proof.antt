@@ -2,7 +2,7 @@ use mathlib.Core.Path.{_∙_, sym}
 use borrow.Author.Needs.{needs}
 use denote.Ref.{now}
 use Rattle.layout.specs.internal.Seen.{refusedLayout, passedLayout, layoutOf}
-use Rattle.packet_spec.proofs.Order.{gives-10, gives-11, gives-12, past-12}
+use Rattle.packet_spec.proofs.CheckOrder.{gives-10, gives-11, gives-12, past-12}
 use Rattle.layout.proofs.read.Statement.{statement}
 use Rattle.layout.proofs.read.Tie as tie
 

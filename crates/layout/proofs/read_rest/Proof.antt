@@ -9,7 +9,7 @@ use borrow.Author.Needs.{needs}
 use denote.Ref.{now}
 use Rattle.layout.specs.internal.Seen.{refusedLayout, passedLayout}
 use Rattle.packet_spec.specs.Header.{headerEnd, paddingBad, payloadEnd}
-use Rattle.packet_spec.proofs.Order.{gives-13, gives-14, past-14}
+use Rattle.packet_spec.proofs.CheckOrder.{gives-13, gives-14, past-14}
 use Rattle.layout.proofs.Payload.{is-past, is-at}
 use Rattle.layout.proofs.read_rest.Statement.{statement}
 use Rattle.layout.proofs.read_rest.Tie as tie

@@ -1,5 +1,5 @@
 use denote.Ref.{now}
-use Rattle.records.proofs.Runs.{ready-is, read-on, read-not}
+use Rattle.records.proofs.TurnsInOrder.{ready-is, read-on, read-not}
 use borrow.Author.Needs.{needs}
 use Rattle.records.proofs.read.Statement.{statement}
 use Rattle.records.proofs.read.Tie as tie

@@ -16,7 +16,7 @@ use Rattle.heading.specs.internal.Headers.{frontWith}
 use Rattle.heading.proofs.Headers.{front-over}
 use Rattle.writer.specs.Draft.{clockAnswer}
 use Rattle.writer.specs.internal.Parts.{textsOf, frontIn, packetWith, packetSize}
-use Rattle.writer.proofs.Whole.{few, front-size, size-is}
+use Rattle.writer.proofs.PacketByParts.{few, front-size, size-is}
 use Rattle.writer.proofs.Answers.{by-short, by-sent, put-quiet, put-short, put-sent}
 use borrow.Author.Needs.{needs}
 use Rattle.writer.proofs.put_draft.Statement.{statement}

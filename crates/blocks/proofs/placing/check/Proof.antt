@@ -18,7 +18,7 @@ use Rattle.block_headers.specs.internal.Seen.{seenHead, seenHeads, noHead}
 use Rattle.base.proofs.Maps.{getD-map}
 use Rattle.text_spec.proofs.Walks.{goesOn, part-on, part-stops}
 use Rattle.text.proofs.Owes.{owes-none, owes-some}
-use Rattle.blocks.proofs.Parts.{Here, behind, older-here, primary-here}
+use Rattle.blocks.proofs.BlockWalk.{Here, behind, older-here, primary-here}
 use Rattle.blocks.proofs.placing.check.Statement.{statement}
 use Rattle.blocks.proofs.placing.check.Tie as tie
 

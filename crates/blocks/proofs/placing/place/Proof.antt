@@ -16,7 +16,7 @@ use Rattle.packet.specs.Places.{none}
 use Rattle.blocks.specs.internal.Placing.{headPlaces, placedFrom}
 use Rattle.base.proofs.Maps.{getD-map}
 use Rattle.base.proofs.Filled.{filled-more}
-use Rattle.blocks.proofs.Parts.{total-snoc, places-snoc, places-length}
+use Rattle.blocks.proofs.BlockWalk.{total-snoc, places-snoc, places-length}
 use Rattle.blocks.proofs.placing.place.Statement.{statement}
 use Rattle.blocks.proofs.placing.place.Tie as tie
 

@@ -54,7 +54,7 @@ use Rattle.boundary.specs.declared.ReceiverRecord.{ReceiverRecord}
 use Rattle.boundary.specs.declared.Step.{Step}
 use Rattle.boundary.specs.Receiving.{heldIn, lentRecord, stepNumber, stepRecord, stepBehind, receiverBehind}
 use Rattle.receiver_spec.specs.Kinds.{wasRefused, wasLate}
-use Rattle.boundary.proofs.Behind.{step-stays, step-told, refused-stays, late-stays, moves-on}
+use Rattle.boundary.proofs.RecordsLeft.{step-stays, step-told, refused-stays, late-stays, moves-on}
 use Rattle.boundary.proofs.ReceiverRecord as R
 use Rattle.boundary.proofs.Step as D
 use Rattle.boundary.proofs.Step.Laws as D′

@@ -11,7 +11,7 @@ use Rattle.receiver_spec.specs.Distance.{signed}
 use Rattle.receiver_spec.specs.Answers.{isLate}
 use Rattle.receiver.specs.View.{receiverOf}
 use Rattle.receiver.specs.internal.Accepted.{followed}
-use Rattle.receiver.proofs.Sign.{negative-late, other-forward}
+use Rattle.receiver.proofs.SignedDistance.{negative-late, other-forward}
 use Rattle.receiver.proofs.accepting.accept_later.Statement.{statement}
 use Rattle.receiver.proofs.accepting.accept_later.Tie as tie
 

@@ -2,7 +2,7 @@ use mathlib.Core.Path.{_∙_}
 use mir.Syntax.{w16}
 use mir.Facts.{toZ-ofZ}
 use borrow.Author.Needs.{needs}
-use Rattle.receiver.proofs.Sign.{small-signed, large-signed, large-fits}
+use Rattle.receiver.proofs.SignedDistance.{small-signed, large-signed, large-fits}
 use Rattle.receiver.proofs.accepting.signed.Statement.{statement}
 use Rattle.receiver.proofs.accepting.signed.Tie as tie
 

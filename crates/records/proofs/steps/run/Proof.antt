@@ -6,7 +6,7 @@ use denote.Ref.{now}
 use lib.ListN.{length, length-take, length-drop}
 use Rattle.journal_spec.specs.Contents.{longestPacket}
 use Rattle.records.specs.internal.Turns.{Went}
-use Rattle.records.proofs.Runs.{gone, went-on, at-end, turn-last}
+use Rattle.records.proofs.TurnsInOrder.{gone, went-on, at-end, turn-last}
 use Rattle.records.proofs.steps.run.Statement.{statement}
 use Rattle.records.proofs.steps.run.Tie as tie
 

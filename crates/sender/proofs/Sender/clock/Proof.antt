@@ -42,14 +42,14 @@ use denote.Exit.{yes}
 use Rattle.base.specs.Flags.{isSet}
 use Rattle.base.proofs.Records.{of-uint, Known, had, opens-whole, closes-whole, returned, copied, freed, unused, leaves-if}
 use Rattle.slots.specs.Slots.{textsSize}
-use Rattle.sender.proofs.Asked.{senders, judgements, answers, bools, sizes, with-one, with-two, Judging, goes-judge, IsReady, goes-ready, IsEarly, goes-early, Refusing, goes-refuse, IsFirst, goes-first, Marking, goes-mark, BySize, goes-by-size, At, goes-at}
+use Rattle.sender.proofs.PlainCalls.{senders, judgements, answers, bools, sizes, with-one, with-two, Judging, goes-judge, IsReady, goes-ready, IsEarly, goes-early, Refusing, goes-refuse, IsFirst, goes-first, Marking, goes-mark, BySize, goes-by-size, At, goes-at}
 use Rattle.sender.specs.declared.Sender.{Sender}
 use Rattle.writer.specs.declared.Answer.{Answer}
 use Rattle.writer.specs.declared.Answer.the-variants.{Quiet}
 use Rattle.settings.specs.Judging.{judged, isEarly, isReady}
 use Rattle.writer.specs.Draft.{answerBy}
 use Rattle.sender.specs.Clocking.{judgementAt, refusedBy, markerDue, recordAt, Clocks, Sends}
-use Rattle.sender.proofs.Answered.{ready-is, first-marked, early-is, refused-is}
+use Rattle.sender.proofs.ClockAnswered.{ready-is, first-marked, early-is, refused-is}
 use Rattle.sender.proofs.Sender as S
 use Rattle.sender.proofs.clocking.judge as judging
 use Rattle.sender.proofs.clocking.judge.Symbol as judging-def

@@ -48,7 +48,7 @@ use Rattle.slots.specs.Slots.{textsSize}
 use Rattle.sender.specs.declared.Sender.{Sender}
 use Rattle.packet.specs.Refusal.{isRefused}
 use Rattle.sender.specs.Offering.{recordWith, recordBy, Offers}
-use Rattle.sender.proofs.Chosen.{by-refused, by-accepted}
+use Rattle.sender.proofs.RecordLeft.{by-refused, by-accepted}
 use Rattle.sender.proofs.Sender as S
 use Rattle.sender.proofs.Sender.Laws as S′
 use Rattle.sender.proofs.offering.offered as offered

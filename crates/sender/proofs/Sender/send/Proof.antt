@@ -42,12 +42,12 @@ use denote.Triple.Walked.{says, Stays, stay-ref, stay-none, stay-none-ref, gave-
 use denote.Exit.{yes}
 use Rattle.base.proofs.Records.{of-uint, Known, had, opens-whole, closes-whole, returned, copied, freed, unused, leaves-if}
 use Rattle.slots.specs.Slots.{textsSize}
-use Rattle.sender.proofs.Asked.{senders, answers, bools, sizes, with-one, with-two, BySize, goes-by-size, IsQuiet, goes-quiet, IsSent, goes-sent, At, goes-at, After, goes-after}
+use Rattle.sender.proofs.PlainCalls.{senders, answers, bools, sizes, with-one, with-two, BySize, goes-by-size, IsQuiet, goes-quiet, IsSent, goes-sent, At, goes-at, After, goes-after}
 use Rattle.sender.specs.declared.Sender.{Sender}
 use Rattle.writer.specs.declared.Answer.{Answer}
 use Rattle.writer.specs.Draft.{answerBy, isQuiet, isSent}
 use Rattle.sender.specs.Clocking.{recordAt, recordAfter, recordBehind, Sends}
-use Rattle.sender.proofs.Chosen.{behind-quiet, behind-sent, behind-refused}
+use Rattle.sender.proofs.RecordLeft.{behind-quiet, behind-sent, behind-refused}
 use Rattle.sender.proofs.Sender as S
 use Rattle.sender.proofs.clocking.put as putting
 use Rattle.sender.proofs.clocking.put.Symbol as putting-def

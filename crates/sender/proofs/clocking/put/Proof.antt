@@ -6,7 +6,7 @@ use denote.Ref.{now}
 use Rattle.writer.specs.declared.Draft.{Draft}
 use Rattle.writer.specs.Draft.{answerBy, putOf}
 use Rattle.sender.specs.Clocking.{draftOf}
-use Rattle.sender.proofs.Answered.{answered-is}
+use Rattle.sender.proofs.ClockAnswered.{answered-is}
 use Rattle.sender.proofs.clocking.put.Statement.{statement}
 use Rattle.sender.proofs.clocking.put.Tie as tie
 

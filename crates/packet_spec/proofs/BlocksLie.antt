@@ -20,7 +20,7 @@ use Rattle.base.proofs.Slices.{take-slice, drop-slice, slice-end}
 use Rattle.packet_spec.proofs.Payload.{payload-inside}
 use Rattle.base.proofs.InOrder.{NoneApplies}
 use Rattle.packet_spec.proofs.Accepted.{Accepted, accepted, none-applies}
-use Rattle.packet_spec.proofs.Runs.{reach, joined-split, joined-drop, cut-joined}
+use Rattle.packet_spec.proofs.BlockRuns.{reach, joined-split, joined-drop, cut-joined}
 
 pub blocks-length : (older : List Block) (primary : List ℕ) → length (blocksOf older primary) ≡ suc (length older)
 blocks-length [] primary = refl

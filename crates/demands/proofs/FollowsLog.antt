@@ -21,10 +21,10 @@ use Rattle.sender_spec.specs.Settings.{settingsNumber}
 use Rattle.demands.specs.Ours.{ours}
 use Rattle.demands.specs.Rules.{IsPacket}
 use Rattle.demands.specs.Sending.{Call, offer, clock, Written, writtenBy, writes, senderAfter, written, finally}
-use Rattle.delivery.proofs.Runs.{run-within}
+use Rattle.delivery.proofs.OldestBlock.{run-within}
 use Rattle.sender_spec.proofs.Shapes as shapes
 use Rattle.sender_spec.proofs.Shapes.{Offer, Clock, offer-shape, clock-shape}
-use Rattle.demands.proofs.Log.{down, take-down, keep-down, recent-down, reverse-down}
+use Rattle.demands.proofs.KeptIsLog.{down, take-down, keep-down, recent-down, reverse-down}
 
 -- the block of a packet
 abbrev pub blockOf : Written → SentBlock

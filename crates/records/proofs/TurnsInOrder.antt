@@ -18,7 +18,7 @@ use lib.Dec.{leb}
 use Rattle.base.proofs.Tests.{and-left, and-right}
 use Rattle.reading.proofs.Sound.{fits}
 use Rattle.parts.proofs.Zeros.{behind}
-use Rattle.records.proofs.Lent.{lends-all}
+use Rattle.records.proofs.LentBuffer.{lends-all}
 
 pub gone : (r : Reader) (p s : List ℕ) → sound r ≡ true → Went r p s r p 0
 gone r p s ok = record { still = ok; within = omega arith; reads = refl; leaves = refl; lends = refl }

@@ -9,7 +9,7 @@ use Rattle.packet.specs.declared.Refusal.{Refusal}
 use Rattle.packet_spec.specs.Reading.{Content, Read, holds, refused}
 use Rattle.packet.specs.Refusal.{number, outcomeNumber}
 use Rattle.packet.specs.Places.{ReadResult, numbered, placed, answer}
-use Rattle.packet_spec.proofs.Numbers.{Positive}
+use Rattle.packet_spec.proofs.RefusalNumbers.{Positive}
 use Rattle.packet.proofs.Names.{number-positive}
 
 -- the answer to a reading, by its outcome

@@ -17,7 +17,7 @@ use Rattle.sender_spec.specs.State.{SentBlock, hasText}
 use Rattle.sender_spec.specs.Packets.{recentRun, anyText, repeated}
 use Rattle.writer.specs.Draft.{blocksFrom, carriedBy, draftPrimary, draftPacket}
 use Rattle.carrying.specs.internal.Young.{youngRun, textTotal}
-use Rattle.carrying.proofs.Young.{AllYoung, run-few, run-young}
+use Rattle.carrying.proofs.YoungRun.{AllYoung, run-few, run-young}
 use Rattle.heading.specs.internal.LastFirst.{lastFirst}
 use Rattle.heading.specs.internal.Headers.{headersFor, headsWith, frontWith}
 use Rattle.heading.proofs.LastFirst.{last-none}
@@ -26,7 +26,7 @@ use Rattle.slots.specs.Slots.{textsSize}
 use Rattle.writer.specs.internal.Parts.{textAt, waitingAt, textsOf, frontIn, packetWith, packetSize}
 use Rattle.writer.proofs.Slots.{waiting-at, kept-length}
 use Rattle.writer.proofs.TextsSize.{texts-size}
-use Rattle.writer.proofs.Kept.{take-least, run-front, some-text, run-length, any-total, kept-heads, kept-texts}
+use Rattle.writer.proofs.KeptBlocks.{take-least, run-front, some-text, run-length, any-total, kept-heads, kept-texts}
 
 -- where the packet repeats n blocks
 module _ (d : Draft) (texts : List ℕ) (n : ℕ) (lens : length (d .lens) ≡ level) (ats : length (d .ats) ≡ level)

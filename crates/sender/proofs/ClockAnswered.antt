@@ -28,7 +28,7 @@ use Rattle.writer.specs.Draft as Draft
 use Rattle.writer.specs.Draft.{clockAnswer, putOf}
 use Rattle.sender.specs.State.{stateOf}
 use Rattle.sender.specs.Clocking.{judgementAt, refusedBy, markerDue, draftOf, recordAt, recordBehind, Clocks}
-use Rattle.sender.proofs.Behind.{after-is}
+use Rattle.sender.proofs.AfterClockCall.{after-is}
 use Rattle.sender.proofs.Drafted.{packet-is}
 
 -- 01's result goes by the judgement

@@ -8,7 +8,7 @@ use lib.IntN.{ℤ, pos}
 use lib.ListN.{length}
 use Rattle.packet_spec.specs.Limits.{level}
 use Rattle.packet_spec.specs.Reading.{Content, Read, holds, refused}
-use Rattle.packet_spec.proofs.Lies.{lies}
+use Rattle.packet_spec.proofs.BlocksLie.{lies}
 use Rattle.delivery.specs.Course.{courseOf, late, forward, Course, distance, wanted, loss}
 use Rattle.receiver_spec.specs.State.{Receiver, readBy, sourceExpected}
 use Rattle.receiver_spec.specs.Distance.{signed}

@@ -14,7 +14,7 @@ use Rattle.sender_spec.specs.Calls.{offerOf, clockOf}
 use Rattle.sender_spec.specs.Packets.{taken, left, afterPacket}
 use Rattle.text_spec.proofs.TextJoin.{text-join}
 use Rattle.base.specs.Every.{Every}
-use Rattle.base.proofs.Every.{every-take}
+use Rattle.base.proofs.EveryLaws.{every-take}
 use Rattle.sender_spec.proofs.Shapes.{Offer, joined, Clock, quiet, sent, offer-shape, clock-shape}
 use Rattle.sender_spec.proofs.Shapes
 

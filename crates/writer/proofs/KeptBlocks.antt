@@ -18,7 +18,7 @@ use Rattle.sender_spec.specs.Packets.{recent, recentRun, anyText, repeated}
 use Rattle.slots.specs.Slots.{slotOf, slotText, textsSize}
 use Rattle.writer.specs.Draft.{blocksFrom}
 use Rattle.carrying.specs.internal.Young.{young, youngRun, textTotal}
-use Rattle.carrying.proofs.Young.{AllYoung, young-age}
+use Rattle.carrying.proofs.YoungRun.{AllYoung, young-age}
 use Rattle.heading.specs.internal.LastFirst.{lastFirst}
 use Rattle.heading.specs.internal.Headers.{offsetOf, headAt, headersFor}
 use Rattle.heading.proofs.LastFirst.{last-none, last-more}

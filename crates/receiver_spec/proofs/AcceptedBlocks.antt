@@ -11,7 +11,7 @@ use Rattle.receiver_spec.specs.State.{Receiver, readBy}
 use Rattle.packet_spec.specs.Limits.{level}
 use Rattle.packet_spec.specs.Reading.{Content, holds, reading}
 use Rattle.delivery.specs.Record.{lastOf}
-use Rattle.packet_spec.proofs.Lies.{of-one-source}
+use Rattle.packet_spec.proofs.BlocksLie.{of-one-source}
 
 -- the last blocks and the primary
 pub last-snoc : {A : Type 0} (w : ℕ) (xs : List A) (y : A) → w ≤ length xs → lastOf (suc w) (xs ++ (y ∷ [])) ≡ lastOf w xs ++ (y ∷ [])

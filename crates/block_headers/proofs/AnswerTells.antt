@@ -19,7 +19,7 @@ use Rattle.base.proofs.Filled.{take-filled}
 use Rattle.base.proofs.Slices.{slice-end}
 use Rattle.base.proofs.Tests.{by-test, or-left, or-right}
 use Rattle.packet_spec.proofs.Accepted.{Behind, heads-behind}
-use Rattle.packet_spec.proofs.Numbers.{HeadsPositive, heads-positive}
+use Rattle.packet_spec.proofs.RefusalNumbers.{HeadsPositive, heads-positive}
 use Rattle.packet.proofs.Names.{number-positive}
 
 -- a refusal has a number; older blocks are few, and what lies behind their headers reaches the payload's end

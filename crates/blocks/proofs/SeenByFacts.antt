@@ -13,8 +13,8 @@ use Rattle.packet.specs.Places.{none}
 use Rattle.block_headers.specs.internal.Seen.{headsWithin}
 use Rattle.blocks.specs.internal.Placing.{headPlaces}
 use Rattle.blocks.specs.internal.Seen.{refusedBlocks, placedBlocks, seenBehind, blocksSeenAt}
-use Rattle.packet_spec.proofs.Order.{past-21}
-use Rattle.block_headers.proofs.Within as Within
+use Rattle.packet_spec.proofs.CheckOrder.{past-21}
+use Rattle.block_headers.proofs.HeadersByFacts as Within
 
 module _ (plain : Bool) (t140 : ℕ) (p : List ℕ) (from end : ℕ) where
   pub behind : (h : Heads) → headsWithin plain t140 p from end ≡ h → blocksSeenAt plain t140 p from end ≡ seenBehind end h
