@@ -17,8 +17,9 @@ use Rattle.standing.specs.Filling.{Fill, reads, lastTurn, afterTurn, fillOf}
 use Rattle.standing.proofs.HowFar.{given-fits, used-fits}
 use Rattle.standing.proofs.Filling.{turnsLeft, turn-less, fill-on, fill-ends}
 use Rattle.journal.specs.declared.Transcript.{Transcript}
-use Rattle.journal.specs.Ready.{standingOf, transcriptReady, hungryNow, Takes, Gives, Fills}
+use Rattle.journal.specs.Ready.{standingOf, transcriptReady, hungryNow, Takes, Fills}
 use Rattle.journal.proofs.Ready.{hungry-is}
+use Rattle.journal.proofs.GiveLeaves.{Gives}
 
 -- what is lent from a place on
 abbrev pub from : ℕ → List ℕ → List ℕ

@@ -1,4 +1,4 @@
--- What `give` leaves.
+-- What is left once some of what is due was given.
 use Prim.Native.Nat.{ℕ, _≤_}
 use mathlib.Core.Path.{_≡_, _∙_, refl, ap, sym}
 use mathlib.Core.List.{List}
@@ -12,11 +12,18 @@ use Rattle.printing.specs.Fitting.{dueFitting}
 use Rattle.due.specs.declared.Due.{Due}
 use Rattle.due.specs.Due.{textDue, leftOf}
 use Rattle.due.proofs.Giving.{left-within, left-text}
-use Rattle.standing.specs.Standing.{Standing, givenOf}
+use Rattle.standing.specs.Standing.{Standing, giveOf, givenOf}
 use Rattle.standing.proofs.HowFar.{gives-rest}
 use Rattle.journal.specs.declared.Transcript.{Transcript}
-use Rattle.journal.specs.Ready.{standingOf, transcriptReady, Gives}
+use Rattle.journal.specs.Ready.{standingOf, transcriptReady}
 use Rattle.journal.proofs.Ready.{facts, holds}
+
+-- the space y became y', with so many bytes given at its front
+pub record Gives (s : Transcript) (p y : List ℕ) (s' : Transcript) (y' : List ℕ) (count : ℕ) : Type 0 where
+  pub still : transcriptReady s' ≡ true
+  pub stands : standingOf s' p ≡ giveOf (standingOf s p) (length y)
+  pub counts : count ≡ length (givenOf (standingOf s p) (length y))
+  pub bytes : y' ≡ over (givenOf (standingOf s p) (length y)) y
 
 abbrev pub gave : Transcript → Due → Transcript
 gave s d = record { reader = s .reader; receiver = s .receiver; counts = s .counts; left = s .left; due = d }

@@ -14,7 +14,7 @@ use Rattle.reading.specs.Reading.{readingOf, sound}
 use Rattle.reading.specs.Reading as Reading
 use Rattle.counts.specs.Counts.{noCounts, countsFit}
 use Rattle.due.specs.Due.{emptyDue, noneDue, dueWithin, textDue}
-use Rattle.standing.specs.Standing.{Standing, takeOf, usedOf, givenOf, giveOf, stopOf}
+use Rattle.standing.specs.Standing.{Standing, takeOf, usedOf, stopOf}
 use Rattle.standing.specs.Filling.{fillOf}
 use Rattle.journal.specs.declared.Transcript.{Transcript}
 
@@ -61,13 +61,6 @@ pub record Takes (s : Transcript) (p x : List ℕ) (s' : Transcript) (p' : List 
   pub still : transcriptReady s' ≡ true
   pub stands : standingOf s' p' ≡ takeOf (standingOf s p) x
   pub uses : used ≡ usedOf (standingOf s p) x
-
--- the space y became y', with so many bytes given at its front
-pub record Gives (s : Transcript) (p y : List ℕ) (s' : Transcript) (y' : List ℕ) (count : ℕ) : Type 0 where
-  pub still : transcriptReady s' ≡ true
-  pub stands : standingOf s' p ≡ giveOf (standingOf s p) (length y)
-  pub counts : count ≡ length (givenOf (standingOf s p) (length y))
-  pub bytes : y' ≡ over (givenOf (standingOf s p) (length y)) y
 
 -- with the lent p, so many bytes of x were used, and so many given at the front of y
 pub record Fills (s : Transcript) (p x y : List ℕ) (s' : Transcript) (p' y' : List ℕ) (used count : ℕ) : Type 0 where

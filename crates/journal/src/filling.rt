@@ -7,7 +7,6 @@ ghost use Rattle.journal_spec.specs.Contents.{longestPacket};
 ghost use Rattle.journal.specs.Ready.{transcriptReady, Fills};
 use crate::Filled;
 use crate::Transcript;
-use crate::giving;
 use crate::state;
 use crate::taking;
 
@@ -19,18 +18,20 @@ pub fn fill(s: Transcript, input: &[u8], packet: &mut [u8], space: &mut [u8]) ->
     let mut used = 0;
     let mut count = 0;
     loop {
-        let given = giving::give(transcript, packet, &mut space[count..]);
-        let next = given.transcript;
-        count += given.count;
-        let reads = state::reads(next, input.len() - used);
+        let due = transcript.due;
+        let gave = due.give(packet, &mut space[count..]);
+        let left = gave.due;
+        transcript.due = left;
+        count += gave.count;
+        let reads = state::reads(transcript, input.len() - used);
         if !reads {
             return Filled {
-                transcript: next,
+                transcript,
                 used,
                 count,
             };
         }
-        let taken = taking::take(next, &input[used..], packet);
+        let taken = taking::take(transcript, &input[used..], packet);
         let after = taken.transcript;
         transcript = after;
         used += taken.used;

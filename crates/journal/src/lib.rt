@@ -1,6 +1,5 @@
 // A journal's transcript, from pieces of any size into space of any size.
 mod filling;
-mod giving;
 mod settling;
 mod state;
 mod taking;
