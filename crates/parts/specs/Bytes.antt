@@ -1,4 +1,4 @@
--- The same byte by byte, for calls that are lent a part of the journal. `proofs/Agree` shows that the two agree.
+-- A journal byte by byte, for calls that are lent a part of the journal. `proofs/BytesTellRecords` shows that the two agree.
 use Prim.Native.Nat.{ℕ, _+_, _-_, _*_}
 use mathlib.Core.Bool.{Bool, true, false, cond}
 use mathlib.Core.List.{List, [], _∷_, _++_}
