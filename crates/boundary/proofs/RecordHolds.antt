@@ -9,8 +9,8 @@ use Rattle.delivery.specs.Course.{courseOf, late, forward, Course, distance}
 use Rattle.receiver_spec.specs.State.{Receiver, sourceExpected}
 use Rattle.receiver_spec.specs.Step.{stepRead, firstStep, stepBy, stepOf}
 use Rattle.boundary.specs.declared.ReceiverRecord.{ReceiverRecord}
-use Rattle.boundary.specs.Receiving.{bit, heldIn, lentRecord, receiverBehind}
-use Rattle.base.specs.Flags.{isSet}
+use Rattle.boundary.specs.Receiving.{heldIn, lentRecord, receiverBehind}
+use Rattle.base.specs.Flags.{bit, isSet}
 
 flag-bit : (b : Bool) → isSet (bit b) ≡ b
 flag-bit true = refl

@@ -1,17 +1,12 @@
 -- What the exported step says: its number, and the two records lent to it.
 use Prim.Native.Nat.{ℕ}
-use mathlib.Core.Bool.{Bool, true, false}
 use lib.IntN.{pos}
-use Rattle.base.specs.Flags.{isSet}
+use Rattle.base.specs.Flags.{isSet, bit}
 use Rattle.receiver_spec.specs.State.{Receiver}
 use Rattle.receiver_spec.specs.Answers as Stepping
 use Rattle.receiver_spec.specs.Answers.{gives, isLate, refuses, StepAnswer}
 use Rattle.boundary.specs.declared.ReceiverRecord.{ReceiverRecord}
 use Rattle.boundary.specs.declared.Step.{Step}
-
-abbrev pub bit : Bool → ℕ
-bit true = 1
-bit false = 0
 
 -- the receiver that a record holds
 abbrev pub heldIn : ReceiverRecord → Receiver

@@ -7,7 +7,7 @@ ghost use Rattle.packet.specs.Places.{expectedSource};
 ghost use Rattle.receiver_spec.specs.Step.{stepOf};
 ghost use Rattle.receiver.specs.View.{receiverOf, stepAnswer, advanced};
 ghost use Rattle.boundary.specs.Answers.{expectedOf, textAnswer};
-ghost use Rattle.boundary.specs.Receiving.{bit, heldIn, lentRecord, stepNumber, stepRecord};
+ghost use Rattle.boundary.specs.Receiving.{heldIn, lentRecord, stepNumber, stepRecord};
 ghost use Rattle.receiver_spec.specs.Kinds.{wasRefused, wasLate};
 use packet::Expected;
 use packet::Outcome;
@@ -72,15 +72,6 @@ pub struct ReceiverRecord {
     pub expected: u16,
 }
 
-fn byte_of(set: bool) -> u8
-    ensures { λ r. ⌜ r ≡ bit set ⌝ }
-{
-    if set {
-        return 1;
-    }
-    0
-}
-
 pub fn receiver_of(lent: ReceiverRecord) -> Receiver
     ensures { λ r. ⌜ receiverOf r ≡ heldIn lent ⌝ }
 {
@@ -97,7 +88,7 @@ pub fn receiver_of(lent: ReceiverRecord) -> Receiver
 pub fn record_of(receiver: Receiver) -> ReceiverRecord
     ensures { λ r. ⌜ r ≡ lentRecord (receiverOf receiver) ⌝ }
 {
-    let has_source = byte_of(receiver.has_source);
+    let has_source = numbers::byte_of(receiver.has_source);
     ReceiverRecord {
         t140: receiver.t140,
         red: receiver.red,

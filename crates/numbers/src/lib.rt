@@ -1,6 +1,8 @@
-// Small numbers: the lesser of two, bytes as wider numbers, and the numbers that bytes make, the highest first.
+// Small numbers: the lesser of two, the byte of a flag, bytes as wider numbers, and the numbers that bytes make, the highest
+// first.
 ghost use mathlib.Core.Path.{_≡_};
 ghost use Prim.Native.Nat.{_+_, _*_, _<_, min};
+ghost use Rattle.base.specs.Flags.{bit};
 
 pub fn least(a: usize, b: usize) -> usize
     ensures { λ r. ⌜ r ≡ min a b ⌝ }
@@ -9,6 +11,15 @@ pub fn least(a: usize, b: usize) -> usize
         return a;
     }
     b
+}
+
+pub fn byte_of(set: bool) -> u8
+    ensures { λ r. ⌜ r ≡ bit set ⌝ }
+{
+    if set {
+        return 1;
+    }
+    0
 }
 
 pub fn wide16(x: u8) -> u16

@@ -1,7 +1,7 @@
 -- The reader's answer: 01's number, and the packet with its blocks given by their places.
 use Prim.Native.Nat.{ℕ, _+_, _-_}
 use mathlib.Core.List.{List, [], _∷_}
-use mathlib.Core.Bool.{false, cond}
+use mathlib.Core.Bool.{cond}
 use lib.Dec.{ltb, eqb}
 use lib.ListN.{length, getD}
 use Rattle.packet.specs.declared.Expected as code
@@ -10,6 +10,7 @@ use Rattle.packet.specs.declared.Older.{Older}
 use Rattle.packet.specs.declared.Packet.{Packet}
 use Rattle.packet.specs.declared.Reading.{Reading}
 use Rattle.base.specs.Arrays.{filled, part}
+use Rattle.base.specs.Flags.{bit}
 use Rattle.packet_spec.specs.Limits.{level}
 use Rattle.packet.specs.Refusal.{outcomeNumber}
 use Rattle.packet_spec.specs.Header.{Expected, Any, Only, payloadEnd}
@@ -33,7 +34,7 @@ abbrev pub none : Older
 none = record { offset = 0; at = 0; len = 0 }
 
 abbrev pub zeroPacket : ℕ → Packet
-zeroPacket n = record { marker = false; sequence = 0; timestamp = 0; source = 0; count = 0; older = filled none n []; primary = 0; end = 0 }
+zeroPacket n = record { marker = 0; sequence = 0; timestamp = 0; source = 0; count = 0; older = filled none n []; primary = 0; end = 0 }
 
 -- blocks lie one behind the other
 abbrev pub placesFrom : ℕ → List Block → List Older
@@ -43,7 +44,7 @@ placesFrom at (b ∷ bs) = record { offset = b .offset; at = at; len = length (b
 -- the primary goes up to the payload's end
 abbrev pub placed : ℕ → List ℕ → Content → Packet
 placed n p c = record {
-  marker = c .marker;
+  marker = bit (c .marker);
   sequence = c .sequence;
   timestamp = c .timestamp;
   source = c .source;

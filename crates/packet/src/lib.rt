@@ -90,10 +90,10 @@ pub struct Older {
     pub len: usize,
 }
 
-// What an accepted packet holds: its older blocks, oldest first, and the primary from `primary` up to `end`.
+// What an accepted packet holds: the M bit, 0 or 1, its older blocks, oldest first, and the primary from `primary` up to `end`.
 #[repr(C)]
 pub struct Packet {
-    pub marker: bool,
+    pub marker: u8,
     pub sequence: u16,
     pub timestamp: u32,
     pub source: u32,
@@ -180,7 +180,7 @@ impl Reading {
         Reading {
             outcome: Outcome::Refused(refusal),
             packet: Packet {
-                marker: false,
+                marker: 0,
                 sequence: 0,
                 timestamp: 0,
                 source: 0,

@@ -1,4 +1,4 @@
--- A journal byte by byte, for calls that are lent a part of the journal. `proofs/BytesTellRecords` shows that the two agree.
+-- A journal byte by byte, for calls that are lent a part of the journal. `proofs/BytesTellRecords` shows that it tells what the records tell.
 use Prim.Native.Nat.{ℕ, _+_, _-_, _*_}
 use mathlib.Core.Bool.{Bool, true, false, cond}
 use mathlib.Core.List.{List, [], _∷_, _++_}

@@ -22,6 +22,7 @@ use Rattle.blocks.specs.internal.Placing.{headPlaces}
 use Rattle.blocks.specs.internal.Seen as seen
 use Rattle.blocks.specs.internal.Seen.{refusedBlocks, placedBlocks, seenBehind, blocksSeenAt}
 use Rattle.base.specs.Checks.{numberBy}
+use Rattle.base.specs.Flags.{bit}
 use Rattle.base.proofs.InOrder.{number-first, refused-by, passed-by, none-applies}
 use Rattle.packet_spec.proofs.Payload.{payload-inside}
 use Rattle.packet_spec.proofs.RefusalNumbers.{Positive, reading-positive}
@@ -40,7 +41,7 @@ older-places at (h ∷ hs) s f =
 -- the packet by what is seen of its blocks
 abbrev withBlocks : List ℕ → seen.BlocksSeen → Packet
 withBlocks p b = record {
-  marker = markerOf p;
+  marker = bit (markerOf p);
   sequence = sequenceOf p;
   timestamp = timestampOf p;
   source = sourceOf p;
@@ -59,7 +60,7 @@ placed-is p hs s fit room =
     let r : length (primaryOf hs s) ≡ length s - total hs = length-drop (total hs) s in
     let q : e - length s + total hs ≡ e - length (primaryOf hs s) = omega arith in
     λ i. record {
-      marker = markerOf p;
+      marker = bit (markerOf p);
       sequence = sequenceOf p;
       timestamp = timestampOf p;
       source = sourceOf p;

@@ -23,10 +23,11 @@ pub fn read_from(expected: Expected, t140: u8, red: u8, packet: &[u8]) -> Readin
         Outcome::Refused(refusal) => Reading::refused(refusal),
         Outcome::Accepted => {
             let older = blocks.older;
+            let marker = numbers::byte_of(header.marker);
             Reading {
                 outcome: Outcome::Accepted,
                 packet: Packet {
-                    marker: header.marker,
+                    marker,
                     sequence: header.sequence,
                     timestamp: header.timestamp,
                     source: header.source,

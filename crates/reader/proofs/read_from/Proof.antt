@@ -2,6 +2,7 @@ use Prim.Native.Nat.{ℕ}
 use mathlib.Core.Path.{_≡_, _∙_, ap, sym}
 use borrow.Author.Needs.{needs}
 use denote.Ref.{now}
+use Rattle.base.specs.Flags.{bit}
 use Rattle.packet.specs.Refusal.{number, outcomeNumber}
 use Rattle.packet.specs.Places.{expectedSource}
 use Rattle.header.specs.internal.Seen as header
@@ -64,17 +65,21 @@ returns-2 c =
     let n = sym (ap (λ (b : blocks.BlocksSeen). b .number) (seen-blocks q)) ∙ ap outcomeNumber (k .1) in
     c .refused2 .ensures ∙ blocks-refused (expectedSource (a .expected)) (a .t140) (a .red) (now (a .packet)) (passed (q .before)) (number (k .0 .0)) (number-positive (k .0 .0)) n
 
+byte-of-requires : tie.Need-byte-of-requires
+byte-of-requires c κs = search needs
+
 returns-3 : tie.Need-returns-3
 returns-3 c =
-    let q = c .before .before .before in
+    let q = c .before .before .before .before in
     let a = q .before .before .before .before .before .args in
     let h = seen-header (q .before) in
     let b = seen-blocks q in
-    let n = sym (ap (λ (x : blocks.BlocksSeen). x .number) b) ∙ ap outcomeNumber (c .before .enum-told2 .given .1) in
+    let n = sym (ap (λ (x : blocks.BlocksSeen). x .number) b) ∙ ap outcomeNumber (c .before .before .enum-told2 .given .1) in
+    let m = c .byte-of .ensures ∙ ap (λ (x : header.HeaderSeen). bit (x .marker)) h in
     (λ i. record {
       number = 0;
       packet = record {
-        marker = h i .marker;
+        marker = m i;
         sequence = h i .sequence;
         timestamp = h i .timestamp;
         source = h i .source;
@@ -99,5 +104,6 @@ read-from-spec =
     enum-known-outcome
     refused-requires-2
     enum-told-2
+    byte-of-requires
     returns-2
     returns-3)
