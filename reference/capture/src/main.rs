@@ -16,12 +16,12 @@ fn say(what: &str) {
 }
 
 fn run(options: &Options) -> Result<(), String> {
-    let capture = output::read(options.capture.as_deref())?;
+    let capture = output::open(options.capture.as_deref())?;
     let name = match &options.capture {
         Some(path) => path.display().to_string(),
         None => "standard input".into(),
     };
-    let converted = convert(&capture, options).map_err(|wrong| format!("{name}: {wrong}"))?;
+    let converted = convert(capture, options).map_err(|wrong| format!("{name}: {wrong}"))?;
     match &options.output {
         Some(path) => output::write_file(&converted.journal, path, options.capture.as_deref())?,
         None => output::write_out(&converted.journal)?,
@@ -39,7 +39,10 @@ fn main() {
             exit(2);
         }
         Ok(Asked::Help) => {
-            let _ = writeln!(io::stdout(), "{USAGE}");
+            if let Err(error) = writeln!(io::stdout(), "{USAGE}") {
+                say(&format!("standard output: {error}"));
+                exit(1);
+            }
         }
         Ok(Asked::Journal(options)) => {
             if let Err(wrong) = run(&options) {

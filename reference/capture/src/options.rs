@@ -18,7 +18,7 @@ first bytes:
   pcap, pcapng   Ethernet with or without VLAN, Linux cooked, loopback or raw
                  IP; UDP in IPv4 or IPv6
   hex lines      one packet to a line, that is one UDP payload; blanks are
-                 allowed, # starts a comment
+                 allowed, # starts a comment; a line ends with LF, CR or CR LF
 
   --t140 N    payload type of T140, 96 to 127 (default 98)
   --red N     payload type of RED, 96 to 127, another than T140's (default 100)
@@ -29,14 +29,16 @@ first bytes:
   --ssrc N    take only RTP of this source, as 0x5b8e4731 or as a decimal
               number; of use where both sides of a call were captured
   -o JOURNAL  write the journal to this file, which is not touched before the
-              journal is whole; otherwise it goes to standard output
+              journal is whole and keeps its mode; otherwise it goes to
+              standard output
   --help      print this text
 
 Each packet is preceded by a time record: the milliseconds since the capture's
 first packet, as a 64-bit number. Packets without a time in the capture have
 none. Skipped and counted on standard error are packets longer than the 1488
 bytes that a journal can hold, packets of which the capture has only a part,
-and fragments, which are not put together. A capture may have up to 1 GiB.
+fragments, which are not put together, and frames of more than 4 VLAN tags. A
+capture may have any length; its journal, up to 1 GiB, is held until it is whole.
 
 The exit status is 0 where a journal was written; 1 where the capture is
 damaged, holds no packet to take, or a file cannot be read or written; 2 where
