@@ -48,7 +48,7 @@ impl<'a> Chooser<'a> {
     pub fn new(options: &'a Options) -> Self {
         Chooser {
             options,
-            journal: Recorder::open(options.t140, options.red),
+            journal: Recorder::open(options.t140(), options.red()),
             start: None,
             counts: Counts::default(),
         }
@@ -104,12 +104,9 @@ impl<'a> Chooser<'a> {
     /// With ports, all that goes to or from one of them; without, all that
     /// may be RTP of one of the two payload types.
     fn wanted(&self, udp: &Udp) -> bool {
-        let ports = &self.options.ports;
-        let chosen = match ports.is_empty() {
-            true => payload_type(udp.payload).is_some_and(|kind| self.options.is_text(kind)),
-            false => ports.contains(&udp.source) || ports.contains(&udp.destination),
-        };
-        chosen && of_source(self.options, udp.payload)
+        let by_type = || payload_type(udp.payload).is_some_and(|kind| self.options.is_text(kind));
+        let chosen = self.options.takes([udp.source, udp.destination]);
+        chosen.unwrap_or_else(by_type) && of_source(self.options, udp.payload)
     }
 
     /// Takes a packet of this length, with the time at which it came.

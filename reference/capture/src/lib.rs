@@ -13,6 +13,7 @@ pub mod options;
 pub mod output;
 pub mod pcap;
 pub mod pcapng;
+pub mod sdp;
 pub mod udp;
 
 use choose::Chooser;

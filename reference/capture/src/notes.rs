@@ -75,7 +75,7 @@ impl Counts {
             .map(|((port, kind), count)| format!("payload type {kind} to port {port} ({count})"));
         format!(
             "no packet to take; among {udp} UDP packets these may be RTP: {}; \
-             choose by --port, --t140 and --red",
+             choose by --port, --t140 and --red, or --sdp",
             list(seen)
         )
     }
@@ -140,8 +140,8 @@ impl Counts {
             .map(|(kind, count)| format!("{kind} ({count})"));
         Some(format!(
             "no packet taken has payload type {} or {}; payload types in them: {}",
-            options.t140,
-            options.red,
+            options.t140(),
+            options.red(),
             list(types)
         ))
     }

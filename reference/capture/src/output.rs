@@ -25,6 +25,15 @@ pub fn open(capture: Option<&Path>) -> Result<Box<dyn BufRead>, String> {
     }
 }
 
+/// A text, which is short.
+pub fn read_text(path: &Path) -> Result<String, String> {
+    let file = File::open(path).map_err(told(path))?;
+    let mut text = vec![];
+    let read = file.take(1 << 20).read_to_end(&mut text);
+    read.map_err(told(path))?;
+    Ok(String::from_utf8_lossy(&text).into_owned())
+}
+
 /// Standard output, unless nobody would get what is written there.
 fn out() -> Result<File, String> {
     let out = io::stdout();

@@ -204,7 +204,7 @@ fn usage() {
         (&["--red"], "--red wants a payload type after it"),
         (
             &["--red", "98"],
-            "both 98; give two different payload types",
+            "both have payload type 98; give two different ones",
         ),
         (
             &["--port", "0"],
