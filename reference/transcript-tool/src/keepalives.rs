@@ -10,17 +10,19 @@ pub struct Filter {
 
 impl Filter {
     /// What is to be handed on once this piece has come.
-    pub fn pass(&mut self, piece: &[u8], to: &mut Vec<u8>) {
-        for &byte in piece {
+    pub fn pass(&mut self, mut piece: &[u8], to: &mut Vec<u8>) {
+        while let Some((&byte, rest)) = piece.split_first() {
             if byte == KEEPALIVE[self.begun] {
                 self.begun = (self.begun + 1) % KEEPALIVE.len();
+                piece = rest;
                 continue;
             }
             self.end(to);
-            match byte == KEEPALIVE[0] {
-                true => self.begun = 1,
-                false => to.push(byte),
-            }
+            // All up to where another may begin.
+            let begin = piece.iter().position(|&byte| byte == KEEPALIVE[0]);
+            let (plain, rest) = piece.split_at(begin.unwrap_or(piece.len()));
+            to.extend(plain);
+            piece = rest;
         }
     }
 
