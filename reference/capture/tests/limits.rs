@@ -146,6 +146,18 @@ fn long_packets() {
 }
 
 #[test]
+fn many_interfaces() {
+    let interfaces = |count| interface(BIG, 1, 0, &[]).repeat(count);
+    let last = enhanced(BIG, 65_535, 0, &frame(1, "a"));
+    let file = [section(BIG), interfaces(65_536), last].concat();
+    let (text, _) = printed(&file);
+    assert_eq!(text, "a\npackets 1 late 0 lost 0 refused 0\n");
+    let file = [section(BIG), interfaces(65_537)].concat();
+    let wrong = convert(&file[..], &Options::default()).unwrap_err();
+    assert!(wrong.contains("more than 65536 interfaces"), "{wrong}");
+}
+
+#[test]
 fn line_ends() {
     let line =
         |sequence: u8, letter: u8| format!("806200{sequence:02x}000000005b8e4731{letter:02x}");
