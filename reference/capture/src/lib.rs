@@ -2,28 +2,33 @@
 //! hex lines.
 #![forbid(unsafe_code)]
 
-use independent::recorder::Recorder;
+use std::io::{BufRead, Read};
 
 pub mod choose;
 pub mod hex;
+pub mod input;
 pub mod link;
+pub mod notes;
 pub mod options;
 pub mod output;
 pub mod pcap;
 pub mod pcapng;
+pub mod sdp;
 pub mod udp;
 
-use choose::Chosen;
+use choose::Chooser;
+use input::Input;
 use options::Options;
 
 /// A packet as it was captured, from the link layer on.
 #[derive(Clone, Copy, Debug, PartialEq, Eq)]
 pub struct Frame<'a> {
     /// The byte of the capture at which its record starts.
-    pub place: usize,
+    pub place: u64,
     /// In nanoseconds; none where the capture has no time for it.
     pub time: Option<i128>,
     pub link: u16,
+    /// The first of them, more than any IP packet takes.
     pub bytes: &'a [u8],
 }
 
@@ -42,52 +47,44 @@ enum Kind {
     Hex,
 }
 
-fn kind(capture: &[u8]) -> Result<Kind, String> {
-    if pcap::starts(capture) {
+fn kind(head: &[u8]) -> Result<Kind, String> {
+    if pcap::starts(head) {
         return Ok(Kind::Pcap);
     }
-    if pcapng::starts(capture) {
+    if pcapng::starts(head) {
         return Ok(Kind::Pcapng);
     }
-    if hex::starts(capture) {
+    if hex::starts(head) {
         return Ok(Kind::Hex);
     }
     let compressed: [&[u8]; 4] = [b"\x1f\x8b", b"\x28\xb5\x2f\xfd", b"\xfd7zXZ", b"BZh"];
-    Err(match capture {
+    Err(match head {
         [] => "the input is empty; give a capture".into(),
-        _ if compressed.iter().any(|magic| capture.starts_with(magic)) => {
+        _ if compressed.iter().any(|magic| head.starts_with(magic)) => {
             "the input is compressed; uncompress it first".into()
         }
         _ => format!(
             "byte 0: {:02x?} starts no pcap, pcapng or hex lines; \
              `tcpdump -w` and Wireshark write captures of the first two kinds",
-            &capture[..capture.len().min(4)]
+            &head[..head.len().min(4)]
         ),
     })
 }
 
-/// Makes the journal of the packets that the options choose.
-pub fn convert(capture: &[u8], options: &Options) -> Result<Converted, String> {
-    let chosen = match kind(capture)? {
-        Kind::Pcap => choose::from_frames(&pcap::frames(capture)?, options)?,
-        Kind::Pcapng => choose::from_frames(&pcapng::frames(capture)?, options)?,
-        Kind::Hex => choose::from_lines(hex::lines(capture)?, options)?,
-    };
-    Ok(Converted {
-        journal: journal(&chosen, options),
-        notes: chosen.notes,
-    })
-}
-
-/// The open record, each packet after its time, and the end.
-fn journal(chosen: &Chosen, options: &Options) -> Vec<u8> {
-    let opened = Recorder::open(options.t140, options.red);
-    let record = |recorder: Recorder, packet: &choose::Taken| {
-        let timed = match packet.milliseconds {
-            Some(milliseconds) => recorder.time(milliseconds),
-            None => recorder,
-        };
-        timed.packet(&packet.payload)
-    };
-    chosen.packets.iter().fold(opened, record).end()
+/// Makes the journal of the packets that the options choose, which is all
+/// that is held of the capture.
+pub fn convert(mut capture: impl BufRead, options: &Options) -> Result<Converted, String> {
+    let head = input::head(&mut capture)?;
+    let kind = kind(&head)?;
+    let mut input = Input::new(head.chain(capture));
+    let mut chooser = Chooser::new(options);
+    match kind {
+        Kind::Pcap => pcap::frames(&mut input, |frame| chooser.frame(frame))?,
+        Kind::Pcapng => pcapng::frames(&mut input, |frame| chooser.frame(frame))?,
+        Kind::Hex if !options.ports.is_empty() => {
+            return Err("hex lines have no ports; leave --port out".into());
+        }
+        Kind::Hex => hex::lines(&mut input, |line| chooser.line(line))?,
+    }
+    chooser.converted()
 }

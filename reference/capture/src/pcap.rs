@@ -1,5 +1,8 @@
 //! Files of pcap, of either byte order, in microseconds or nanoseconds.
 
+use std::io::BufRead;
+
+use crate::input::Input;
 use crate::Frame;
 
 const FILE_HEADER: usize = 24;
@@ -57,39 +60,45 @@ pub fn starts(capture: &[u8]) -> bool {
     Format::of(capture).is_some()
 }
 
-/// The packets of a file, in order.
-pub fn frames(capture: &[u8]) -> Result<Vec<Frame<'_>>, String> {
-    let format = Format::of(capture).ok_or("byte 0: no pcap")?;
-    let Some((header, mut rest)) = capture.split_first_chunk::<FILE_HEADER>() else {
-        return Err(cut(0, "the file header", FILE_HEADER, capture.len()));
-    };
+/// Gives the packets of a file, in order.
+pub fn frames(
+    input: &mut Input<impl BufRead>,
+    mut take: impl FnMut(&Frame) -> Result<(), String>,
+) -> Result<(), String> {
+    let mut held = vec![];
+    let got = input.read(FILE_HEADER, &mut held)?;
+    if got < FILE_HEADER {
+        return Err(cut(0, "the file header", FILE_HEADER, got));
+    }
+    let format = Format::of(&held).ok_or("byte 0: no pcap")?;
     // The upper bits tell of a checksum behind each packet.
-    let link = format.number(header, 20) as u16;
+    let link = format.number(&held, 20) as u16;
     crate::link::known(link).map_err(|wrong| format!("byte 20: {wrong}"))?;
-    let mut frames = vec![];
-    while !rest.is_empty() {
-        let place = capture.len() - rest.len();
-        let Some((header, after)) = rest.split_first_chunk::<RECORD_HEADER>() else {
-            return Err(cut(place, "a record's header", RECORD_HEADER, rest.len()));
-        };
-        let length = format.number(header, 8) as usize;
-        let Some((bytes, after)) = after.split_at_checked(length) else {
-            return Err(cut(place + RECORD_HEADER, "a packet", length, after.len()));
-        };
-        let seconds = i128::from(format.number(header, 0));
-        let smaller = i128::from(format.number(header, 4));
-        frames.push(Frame {
+    while !input.is_at_end()? {
+        let place = input.place;
+        let got = input.read(RECORD_HEADER, &mut held)?;
+        if got < RECORD_HEADER {
+            return Err(cut(place, "a record's header", RECORD_HEADER, got));
+        }
+        let length = format.number(&held, 8) as usize;
+        let seconds = i128::from(format.number(&held, 0));
+        let smaller = i128::from(format.number(&held, 4));
+        let packet = input.place;
+        let got = input.read(length, &mut held)?;
+        if got < length {
+            return Err(cut(packet, "a packet", length, got));
+        }
+        take(&Frame {
             place,
             time: Some(seconds * 1_000_000_000 + smaller * format.unit),
             link,
-            bytes,
-        });
-        rest = after;
+            bytes: &held,
+        })?;
     }
-    Ok(frames)
+    Ok(())
 }
 
-fn cut(place: usize, what: &str, wanted: usize, left: usize) -> String {
+fn cut(place: u64, what: &str, wanted: usize, left: usize) -> String {
     format!(
         "byte {place}: {what} takes {wanted} bytes, but {left} are left: the capture is cut off \
          or damaged; `tcpdump -r IN -w OUT` copies the packets before this place"

@@ -1,5 +1,8 @@
 //! Files of pcapng, of either byte order, also changing between sections.
 
+use std::io::BufRead;
+
+use crate::input::Input;
 use crate::Frame;
 
 const SECTION: u32 = 0x0a0d_0d0a;
@@ -9,6 +12,9 @@ const SIMPLE_PACKET: u32 = 3;
 const ENHANCED_PACKET: u32 = 6;
 
 const BYTE_ORDER: u32 = 0x1a2b_3c4d;
+
+/// The most interfaces of a section.
+const INTERFACES: usize = 65_536;
 
 const END_OF_OPTIONS: u16 = 0;
 const TIME_RESOLUTION: u16 = 9;
@@ -41,24 +47,37 @@ impl Interface {
 /// Bytes of a block that are not yet read; what lacks is told by the place.
 struct Fields<'a> {
     rest: &'a [u8],
-    place: usize,
+    /// How many bytes of the block follow that are not held.
+    beyond: usize,
+    place: u64,
     big_endian: bool,
+}
+
+/// What is said of bytes that lack.
+fn lacking(place: u64, count: usize, left: usize) -> String {
+    format!(
+        "byte {place}: {count} bytes are due, but {left} are left: \
+         the capture is cut off or damaged"
+    )
 }
 
 impl<'a> Fields<'a> {
     fn take(&mut self, count: usize) -> Result<&'a [u8], String> {
-        match self.rest.split_at_checked(count) {
-            Some((taken, rest)) => {
-                self.rest = rest;
-                self.place += count;
-                Ok(taken)
-            }
-            None => Err(format!(
-                "byte {}: {count} bytes are due, but {} are left: \
-                 the capture is cut off or damaged",
-                self.place,
-                self.rest.len()
-            )),
+        let (taken, rest) = self
+            .rest
+            .split_at_checked(count)
+            .ok_or_else(|| lacking(self.place, count, self.rest.len() + self.beyond))?;
+        self.rest = rest;
+        self.place += count as u64;
+        Ok(taken)
+    }
+
+    /// A packet, as much of it as is held.
+    fn packet(&mut self, length: usize) -> Result<&'a [u8], String> {
+        let left = self.rest.len() + self.beyond;
+        match length <= left {
+            true => Ok(&self.rest[..length.min(self.rest.len())]),
+            false => Err(lacking(self.place, length, left)),
         }
     }
 
@@ -80,93 +99,106 @@ impl<'a> Fields<'a> {
     }
 }
 
-/// The packets of a file, in order.
-pub fn frames(capture: &[u8]) -> Result<Vec<Frame<'_>>, String> {
+/// Gives the packets of a file, in order.
+pub fn frames(
+    input: &mut Input<impl BufRead>,
+    take: impl FnMut(&Frame) -> Result<(), String>,
+) -> Result<(), String> {
     let mut reader = Reader {
         big_endian: true,
         interfaces: vec![],
-        frames: vec![],
+        take,
     };
-    let mut place = 0;
-    while place < capture.len() {
-        place += reader.block(capture, place)?;
+    let mut held = vec![];
+    while !input.is_at_end()? {
+        reader.block(input, &mut held)?;
     }
-    Ok(reader.frames)
+    Ok(())
 }
 
-struct Reader<'a> {
+struct Reader<F> {
     big_endian: bool,
     /// Those of this section.
     interfaces: Vec<Interface>,
-    frames: Vec<Frame<'a>>,
+    take: F,
 }
 
-impl<'a> Reader<'a> {
-    /// Reads the block at a place, and gives its length.
-    fn block(&mut self, capture: &'a [u8], place: usize) -> Result<usize, String> {
-        let mut fields = self.fields(&capture[place..], place);
-        let kind = fields.long()?;
+impl<F: FnMut(&Frame) -> Result<(), String>> Reader<F> {
+    /// Reads a block.
+    fn block(&mut self, input: &mut Input<impl BufRead>, held: &mut Vec<u8>) -> Result<(), String> {
+        let place = input.place;
+        due(input, 8, held)?;
+        let (kind, length) = (word(held, 0), word(held, 4));
+        let kind = self.number(kind);
+        let mut order = vec![];
         if kind == SECTION {
-            self.section(&capture[place..], place)?;
-            fields.big_endian = self.big_endian;
+            due(input, 4, &mut order)?;
+            self.section(&order, place + 8)?;
         }
-        let length = fields.long()? as usize;
-        if length < 12 || !length.is_multiple_of(4) {
+        let number = self.number(length);
+        let length = number as usize;
+        if length < 12 + order.len() || !length.is_multiple_of(4) {
             let place = place + 4;
             return Err(format!("byte {place}: a block cannot have {length} bytes"));
         }
-        let body = fields.take(length - 12)?;
-        if fields.long()? as usize != length {
-            let place = place + length - 4;
-            return Err(format!("byte {place}: the block's two lengths differ"));
+        let count = length - 12 - order.len();
+        due(input, count, held)?;
+        let (end, mut last) = (input.place, vec![]);
+        due(input, 4, &mut last)?;
+        if self.number(word(&last, 0)) != number {
+            return Err(format!("byte {end}: the block's two lengths differ"));
         }
-        let mut body = self.fields(body, place + 8);
+        let mut body = Fields {
+            rest: held,
+            beyond: count - held.len(),
+            place: place + 8,
+            big_endian: self.big_endian,
+        };
         match kind {
-            INTERFACE => {
-                let interface = interface(&mut body)?;
-                self.interfaces.push(interface);
-            }
+            INTERFACE => self.describe(&mut body, place)?,
             ENHANCED_PACKET | OLD_PACKET => self.packet(kind, place, body)?,
             SIMPLE_PACKET => self.simple(place, body)?,
             _ => {}
         }
-        Ok(length)
+        Ok(())
     }
 
-    fn fields(&self, rest: &'a [u8], place: usize) -> Fields<'a> {
-        Fields {
-            rest,
-            place,
-            big_endian: self.big_endian,
+    fn number(&self, word: [u8; 4]) -> u32 {
+        match self.big_endian {
+            true => u32::from_be_bytes(word),
+            false => u32::from_le_bytes(word),
         }
     }
 
     /// A section says its byte order, and has no interfaces yet.
-    fn section(&mut self, block: &[u8], place: usize) -> Result<(), String> {
-        let mut fields = Fields {
-            rest: block,
-            place,
-            big_endian: true,
-        };
-        fields.take(8)?;
-        let order = fields.long()?;
+    fn section(&mut self, order: &[u8], place: u64) -> Result<(), String> {
         self.big_endian = match order {
-            BYTE_ORDER => true,
-            _ if order.swap_bytes() == BYTE_ORDER => false,
-            _ => return Err(format!("byte {}: no byte order", place + 8)),
+            _ if order == BYTE_ORDER.to_be_bytes() => true,
+            _ if order == BYTE_ORDER.to_le_bytes() => false,
+            _ => return Err(format!("byte {place}: no byte order")),
         };
         self.interfaces.clear();
         Ok(())
     }
 
-    fn interface(&self, number: usize, place: usize) -> Result<Interface, String> {
+    fn describe(&mut self, body: &mut Fields, place: u64) -> Result<(), String> {
+        if self.interfaces.len() == INTERFACES {
+            return Err(format!(
+                "byte {place}: more than {INTERFACES} interfaces are not read here"
+            ));
+        }
+        self.interfaces.push(interface(body)?);
+        Ok(())
+    }
+
+    fn interface(&self, number: usize, place: u64) -> Result<Interface, String> {
         let count = self.interfaces.len();
         self.interfaces.get(number).copied().ok_or_else(|| {
             format!("byte {place}: a packet of interface {number}, but {count} are described")
         })
     }
 
-    fn packet(&mut self, kind: u32, place: usize, mut body: Fields<'a>) -> Result<(), String> {
+    fn packet(&mut self, kind: u32, place: u64, mut body: Fields) -> Result<(), String> {
         let number = match kind {
             ENHANCED_PACKET => body.long()? as usize,
             _ => {
@@ -179,29 +211,41 @@ impl<'a> Reader<'a> {
         let (high, low) = (body.long()?, body.long()?);
         let length = body.long()? as usize;
         body.long()?;
-        self.frames.push(Frame {
+        (self.take)(&Frame {
             place,
             time: Some(interface.nanoseconds(high, low)),
             link: interface.link,
-            bytes: body.take(length)?,
-        });
-        Ok(())
+            bytes: body.packet(length)?,
+        })
     }
 
     /// A packet of the first interface, without a time.
-    fn simple(&mut self, place: usize, mut body: Fields<'a>) -> Result<(), String> {
+    fn simple(&mut self, place: u64, mut body: Fields) -> Result<(), String> {
         let interface = self.interface(0, place)?;
         let mut length = body.long()?;
         if interface.most != 0 {
             length = length.min(interface.most);
         }
-        self.frames.push(Frame {
+        (self.take)(&Frame {
             place,
             time: None,
             link: interface.link,
-            bytes: body.take(length as usize)?,
-        });
-        Ok(())
+            bytes: body.packet(length as usize)?,
+        })
+    }
+}
+
+/// The four bytes at a place.
+fn word(bytes: &[u8], place: usize) -> [u8; 4] {
+    [0, 1, 2, 3].map(|k| bytes[place + k])
+}
+
+/// Reads this many bytes.
+fn due(input: &mut Input<impl BufRead>, count: usize, held: &mut Vec<u8>) -> Result<(), String> {
+    let place = input.place;
+    match input.read(count, held)? {
+        got if got < count => Err(lacking(place, count, got)),
+        _ => Ok(()),
     }
 }
 

@@ -69,8 +69,8 @@ fn wrong_settings() {
     let seen = "these may be RTP: payload type 100 to port 40001 (9)";
     assert!(wrong(&port).contains(seen));
     let types = Options {
-        t140: 110,
-        red: 111,
+        t140: Some(110),
+        red: Some(111),
         ..Options::default()
     };
     assert!(wrong(&types).contains(seen));

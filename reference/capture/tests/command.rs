@@ -2,6 +2,7 @@
 
 use std::fs;
 use std::io::Write;
+use std::os::unix::fs::PermissionsExt;
 use std::path::{Path, PathBuf};
 use std::process::{Command, Output, Stdio};
 
@@ -75,6 +76,23 @@ fn to_a_file() {
         assert_eq!(output.stdout, b"");
         assert_eq!(text(&transcript(&fs::read(&journal).unwrap())), EXPECTED);
         assert_eq!(files(&directory), ["call.journal"]);
+    }
+}
+
+/// What may be read by few stays so.
+#[test]
+fn mode_of_a_file() {
+    let directory = directory("mode_of_a_file");
+    let journal = directory.join("call.journal");
+    for mode in [0o640, 0o600, 0o444] {
+        fs::write(&journal, "old").unwrap();
+        fs::set_permissions(&journal, fs::Permissions::from_mode(mode)).unwrap();
+        let output = run(&["-o", journal.to_str().unwrap(), CAPTURE], b"");
+        assert_eq!(output.status.code(), Some(0), "{}", text(&output.stderr));
+        let after = fs::metadata(&journal).unwrap().permissions().mode();
+        assert_eq!(after & 0o7777, mode);
+        assert_eq!(text(&transcript(&fs::read(&journal).unwrap())), EXPECTED);
+        fs::remove_file(&journal).unwrap();
     }
 }
 
@@ -153,6 +171,26 @@ fn full_device() {
 }
 
 #[test]
+fn closed_output() {
+    let shell = |redirection: &str| {
+        let line = format!("exec \"$0\" \"$1\" {redirection}");
+        Command::new("sh")
+            .args([
+                "-c",
+                &line,
+                env!("CARGO_BIN_EXE_capture-to-journal"),
+                CAPTURE,
+            ])
+            .output()
+            .unwrap()
+    };
+    let output = shell(">&-");
+    assert_eq!(output.status.code(), Some(1));
+    assert!(text(&output.stderr).contains("standard output is closed"));
+    assert_eq!(shell("> /dev/null").status.code(), Some(0));
+}
+
+#[test]
 fn usage() {
     let cases: [(&[&str], &str); 11] = [
         (
@@ -166,7 +204,7 @@ fn usage() {
         (&["--red"], "--red wants a payload type after it"),
         (
             &["--red", "98"],
-            "both 98; give two different payload types",
+            "both have payload type 98; give two different ones",
         ),
         (
             &["--port", "0"],

@@ -135,7 +135,7 @@ fn skipped_packets() {
         vec![1, 2, 3],
         frame(2, "z"),
     ];
-    let converted = convert(&plain(&frames), &Options::default()).unwrap();
+    let converted = convert(&plain(&frames)[..], &Options::default()).unwrap();
     assert_eq!(journal::read(&converted.journal).packets.len(), 2);
     let place = 24
         + frames[..7]
@@ -154,7 +154,7 @@ fn skipped_packets() {
     assert_eq!(converted.notes, expected);
     let longest = ipv4(&udp(40_000, 5004, &text(2, &"b".repeat(1476))));
     assert_eq!(
-        convert(&of_link(101, &[longest]), &Options::default())
+        convert(&of_link(101, &[longest])[..], &Options::default())
             .unwrap()
             .notes,
         [""; 0]
@@ -179,7 +179,7 @@ fn choice() {
             ssrc,
             ..Options::default()
         };
-        let converted = convert(&file, &options).unwrap();
+        let converted = convert(&file[..], &options).unwrap();
         let printed = transcript(&converted.journal);
         (String::from_utf8(printed).unwrap(), converted.notes)
     };
@@ -201,7 +201,7 @@ fn hex_lines() {
     let lines = b"# a line\n\n 80 62 0001 00000000 5b8e4731 61 # its text\r\n\
                   8062000200000000 5B8E4731 62";
     assert_eq!(text_of(lines), "ab");
-    let journal = convert(lines, &Options::default()).unwrap().journal;
+    let journal = convert(&lines[..], &Options::default()).unwrap().journal;
     assert_eq!(journal[3], journal::PACKET, "no times");
     for (lines, expected) in [
         (&b"80\n8x\n"[..], "line 2, column 2: 'x' is no hex digit"),

@@ -1,6 +1,7 @@
 //! Files of pcapng, made block by block, and captures that are cut off.
 
 use capture::convert;
+use capture::input::Input;
 use capture::options::Options;
 use capture::pcapng;
 
@@ -10,14 +11,15 @@ use making::*;
 const ENHANCED: u32 = 6;
 
 /// A frame's time, link type and bytes.
-type Seen<'a> = (Option<i128>, u16, &'a [u8]);
+type Seen = (Option<i128>, u16, Vec<u8>);
 
-fn seen(file: &[u8]) -> Vec<Seen<'_>> {
-    let frames = pcapng::frames(file).unwrap();
-    let frames = frames.into_iter();
-    frames
-        .map(|frame| (frame.time, frame.link, frame.bytes))
-        .collect()
+fn read(file: &[u8]) -> Result<Vec<Seen>, String> {
+    let mut seen = vec![];
+    pcapng::frames(&mut Input::new(file), |frame| {
+        seen.push((frame.time, frame.link, frame.bytes.to_vec()));
+        Ok(())
+    })?;
+    Ok(seen)
 }
 
 #[test]
@@ -32,10 +34,10 @@ fn both_orders() {
         ]
         .concat();
         let expected: [Seen; 2] = [
-            (Some(0x1_0000_0001 * 1000), 1, b"first"),
-            (None, 1, b"second"),
+            (Some(0x1_0000_0001 * 1000), 1, b"first".into()),
+            (None, 1, b"second".into()),
         ];
-        assert_eq!(seen(&file), expected);
+        assert_eq!(read(&file).unwrap(), expected);
     }
 }
 
@@ -73,13 +75,31 @@ fn sections_and_interfaces() {
     ]
     .concat();
     let expected: [Seen; 5] = [
-        (Some(5), 1, b"a"),
-        (Some(2_500_000_000), 113, b"b"),
-        (Some(2_000_000_000), 101, b"c"),
-        (None, 101, b"dddd"),
-        (Some(7000 - 1_000_000_000), 101, b"e"),
+        (Some(5), 1, b"a".into()),
+        (Some(2_500_000_000), 113, b"b".into()),
+        (Some(2_000_000_000), 101, b"c".into()),
+        (None, 101, b"dddd".into()),
+        (Some(7000 - 1_000_000_000), 101, b"e".into()),
     ];
-    assert_eq!(seen(&file), expected);
+    assert_eq!(read(&file).unwrap(), expected);
+}
+
+/// The order before a section says nothing of its length.
+#[test]
+fn order_changes() {
+    for orders in [[BIG, LITTLE, BIG], [LITTLE, BIG, LITTLE]] {
+        let part = |order| {
+            let parts = [
+                section(order),
+                interface(order, 1, 0, &[]),
+                enhanced(order, 0, 1, b"a"),
+            ];
+            parts.concat()
+        };
+        let file = orders.map(part).concat();
+        let expected: [Seen; 3] = [1, 1, 1].map(|link| (Some(1000), link, b"a".into()));
+        assert_eq!(read(&file).unwrap(), expected);
+    }
 }
 
 #[test]
@@ -127,7 +147,7 @@ fn damaged_blocks() {
             "byte 28: a packet of interface 0, but 0".into(),
         ),
     ] {
-        let wrong = pcapng::frames(&file).unwrap_err();
+        let wrong = read(&file).unwrap_err();
         assert!(wrong.starts_with(&expected), "{wrong}");
     }
 }
