@@ -11,14 +11,14 @@ fn main() {
             PathBuf::from(manifest).join("../../target/staticlib")
         }
     };
-    let library = directory.join("libffi.a");
+    let library = directory.join("libstewpigeon.a");
     println!("cargo:rerun-if-changed={}", library.display());
     if !library.is_file() {
         eprintln!("The proved library is missing: {}", library.display());
-        eprintln!("Run `rt staticlib ffi` in the repository's root, then build again;");
-        eprintln!("or set STEWPIGEON_LIB_DIR to the directory that holds libffi.a.");
+        eprintln!("Run `rt staticlib stewpigeon` in the repository's root, then build again;");
+        eprintln!("or set STEWPIGEON_LIB_DIR to the directory that holds libstewpigeon.a.");
         exit(1);
     }
     println!("cargo:rustc-link-search=native={}", directory.display());
-    println!("cargo:rustc-link-lib=static=ffi");
+    println!("cargo:rustc-link-lib=static=stewpigeon");
 }

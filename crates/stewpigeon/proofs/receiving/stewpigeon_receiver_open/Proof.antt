@@ -55,12 +55,12 @@ use Rattle.boundary.proofs.record_of.Met as record-of-thm
 use Rattle.boundary.proofs.number_of.Symbol as number-of-def
 use Rattle.boundary.proofs.number_of.Symbol.{name as #boundary·number-of}
 use Rattle.boundary.proofs.number_of.Met as number-of-thm
-use Rattle.ffi.proofs.Outcomes.{outcomes, NumberOf, numbers}
-use Rattle.ffi.proofs.Receivers.{receivers, records, RecordOf, recorded}
-use Rattle.ffi.proofs.receiving.stewpigeon_receiver_open.Key.{name as #ffi·receiving·stewpigeon-receiver-open}
-use Rattle.ffi.proofs.receiving.stewpigeon_receiver_open as this
-use Rattle.ffi.proofs.receiving.stewpigeon_receiver_open.Statement as stated
-use Rattle.ffi.proofs.receiving.stewpigeon_receiver_open.Code as code
+use Rattle.stewpigeon.proofs.Outcomes.{outcomes, NumberOf, numbers}
+use Rattle.stewpigeon.proofs.Receivers.{receivers, records, RecordOf, recorded}
+use Rattle.stewpigeon.proofs.receiving.stewpigeon_receiver_open.Key.{name as #stewpigeon·receiving·stewpigeon-receiver-open}
+use Rattle.stewpigeon.proofs.receiving.stewpigeon_receiver_open as this
+use Rattle.stewpigeon.proofs.receiving.stewpigeon_receiver_open.Statement as stated
+use Rattle.stewpigeon.proofs.receiving.stewpigeon_receiver_open.Code as code
 
 abbrev answers : Data
 answers = of-record P.the-type P′.the-laws P′.the-plain
@@ -143,7 +143,7 @@ pub stewpigeon-receiver-open-spec : {M : Type 1} → stated.statement M
 unfolding code.routine tablesOf
 stewpigeon-receiver-open-spec 𝓤 H 𝓜 𝓖 𝓡 =
     entered 𝓤 H (tripleOf 𝓤 H (𝓖 .A) this.signature (this.spec 𝓤 H (𝓖 .A) (𝓜 .mem) (𝓡 .run)))
-    (tables 𝓤 H 𝓜 𝓡 code.env .C) (tables 𝓤 H 𝓜 𝓡 code.env .Λ) #ffi·receiving·stewpigeon-receiver-open code.function (code.unfolded 𝓤 H 𝓜 𝓡)
+    (tables 𝓤 H 𝓜 𝓡 code.env .C) (tables 𝓤 H 𝓜 𝓡 code.env .Λ) #stewpigeon·receiving·stewpigeon-receiver-open code.function (code.unfolded 𝓤 H 𝓜 𝓡)
     (meets 𝓤 H (𝓖 .A) (givenOf 𝓤 H 𝓜 𝓖) (𝓜 .mem) (𝓡 .run) (tablesOf 𝓤 H 𝓜 (tables 𝓤 H 𝓜 𝓡 code.env))
     (cited 𝓤 H (Open 𝓤 H (𝓖 .A) (𝓜 .mem) (𝓡 .run)) 𝓜 𝓡 code.env #receiver·Receiver·open open-def.routine code.calls-receiver·Receiver·open (open-thm.met 𝓤 H 𝓜 𝓖 𝓡))
     (cited 𝓤 H (RecordOf 𝓤 H (𝓖 .A) (𝓜 .mem) (𝓡 .run)) 𝓜 𝓡 code.env #boundary·record-of record-of-def.routine code.calls-boundary·record-of (record-of-thm.met 𝓤 H 𝓜 𝓖 𝓡))

@@ -49,11 +49,11 @@ use Rattle.sender_boundary.specs.Calls.{OffersIn}
 use Rattle.boundary.proofs.number_of.Symbol as number-of-def
 use Rattle.boundary.proofs.number_of.Symbol.{name as #boundary·number-of}
 use Rattle.boundary.proofs.number_of.Met as number-of-thm
-use Rattle.ffi.proofs.Outcomes.{outcomes, NumberOf, numbers}
-use Rattle.ffi.proofs.sending.stewpigeon_sender_offer_in.Key.{name as #ffi·sending·stewpigeon-sender-offer-in}
-use Rattle.ffi.proofs.sending.stewpigeon_sender_offer_in as this
-use Rattle.ffi.proofs.sending.stewpigeon_sender_offer_in.Statement as stated
-use Rattle.ffi.proofs.sending.stewpigeon_sender_offer_in.Code as code
+use Rattle.stewpigeon.proofs.Outcomes.{outcomes, NumberOf, numbers}
+use Rattle.stewpigeon.proofs.sending.stewpigeon_sender_offer_in.Key.{name as #stewpigeon·sending·stewpigeon-sender-offer-in}
+use Rattle.stewpigeon.proofs.sending.stewpigeon_sender_offer_in as this
+use Rattle.stewpigeon.proofs.sending.stewpigeon_sender_offer_in.Statement as stated
+use Rattle.stewpigeon.proofs.sending.stewpigeon_sender_offer_in.Code as code
 
 abbrev Lent : RattleType
 Lent = Array u8 textsSize
@@ -150,7 +150,7 @@ pub stewpigeon-sender-offer-in-spec : {M : Type 1} → stated.statement M
 unfolding code.routine tablesOf
 stewpigeon-sender-offer-in-spec 𝓤 H 𝓜 𝓖 𝓡 =
     entered 𝓤 H (tripleOf 𝓤 H (𝓖 .A) this.signature (this.spec 𝓤 H (𝓖 .A) (𝓜 .mem) (𝓡 .run)))
-    (tables 𝓤 H 𝓜 𝓡 code.env .C) (tables 𝓤 H 𝓜 𝓡 code.env .Λ) #ffi·sending·stewpigeon-sender-offer-in code.function (code.unfolded 𝓤 H 𝓜 𝓡)
+    (tables 𝓤 H 𝓜 𝓡 code.env .C) (tables 𝓤 H 𝓜 𝓡 code.env .Λ) #stewpigeon·sending·stewpigeon-sender-offer-in code.function (code.unfolded 𝓤 H 𝓜 𝓡)
     (meets 𝓤 H (𝓖 .A) (givenOf 𝓤 H 𝓜 𝓖) (𝓜 .mem) (𝓡 .run) (tablesOf 𝓤 H 𝓜 (tables 𝓤 H 𝓜 𝓡 code.env))
     (cited 𝓤 H (Offer 𝓤 H (𝓖 .A) (𝓜 .mem) (𝓡 .run)) 𝓜 𝓡 code.env #sender·Sender·offer offer-def.routine code.calls-sender·Sender·offer (offer-thm.met 𝓤 H 𝓜 𝓖 𝓡))
     (cited 𝓤 H (NumberOf 𝓤 H (𝓖 .A) (𝓜 .mem) (𝓡 .run)) 𝓜 𝓡 code.env #boundary·number-of number-of-def.routine code.calls-boundary·number-of (number-of-thm.met 𝓤 H 𝓜 𝓖 𝓡)))

@@ -56,11 +56,11 @@ use Rattle.sender_boundary.proofs.«open» as opening
 use Rattle.sender_boundary.proofs.«open».Symbol as open-def
 use Rattle.sender_boundary.proofs.«open».Symbol.{name as #sender-boundary·open}
 use Rattle.sender_boundary.proofs.«open».Met as open-thm
-use Rattle.ffi.proofs.Outcomes.{outcomes, NumberOf, numbers}
-use Rattle.ffi.proofs.sending.stewpigeon_sender_open_in.Key.{name as #ffi·sending·stewpigeon-sender-open-in}
-use Rattle.ffi.proofs.sending.stewpigeon_sender_open_in as this
-use Rattle.ffi.proofs.sending.stewpigeon_sender_open_in.Statement as stated
-use Rattle.ffi.proofs.sending.stewpigeon_sender_open_in.Code as code
+use Rattle.stewpigeon.proofs.Outcomes.{outcomes, NumberOf, numbers}
+use Rattle.stewpigeon.proofs.sending.stewpigeon_sender_open_in.Key.{name as #stewpigeon·sending·stewpigeon-sender-open-in}
+use Rattle.stewpigeon.proofs.sending.stewpigeon_sender_open_in as this
+use Rattle.stewpigeon.proofs.sending.stewpigeon_sender_open_in.Statement as stated
+use Rattle.stewpigeon.proofs.sending.stewpigeon_sender_open_in.Code as code
 
 abbrev senders : Data
 senders = of-record S.the-type S′.the-laws S′.the-plain
@@ -198,7 +198,7 @@ pub stewpigeon-sender-open-in-spec : {M : Type 1} → stated.statement M
 unfolding code.routine tablesOf
 stewpigeon-sender-open-in-spec 𝓤 H 𝓜 𝓖 𝓡 =
     entered 𝓤 H (tripleOf 𝓤 H (𝓖 .A) this.signature (this.spec 𝓤 H (𝓖 .A) (𝓜 .mem) (𝓡 .run)))
-    (tables 𝓤 H 𝓜 𝓡 code.env .C) (tables 𝓤 H 𝓜 𝓡 code.env .Λ) #ffi·sending·stewpigeon-sender-open-in code.function (code.unfolded 𝓤 H 𝓜 𝓡)
+    (tables 𝓤 H 𝓜 𝓡 code.env .C) (tables 𝓤 H 𝓜 𝓡 code.env .Λ) #stewpigeon·sending·stewpigeon-sender-open-in code.function (code.unfolded 𝓤 H 𝓜 𝓡)
     (meets 𝓤 H (𝓖 .A) (givenOf 𝓤 H 𝓜 𝓖) (𝓜 .mem) (𝓡 .run) (tablesOf 𝓤 H 𝓜 (tables 𝓤 H 𝓜 𝓡 code.env))
     (cited 𝓤 H (Open 𝓤 H (𝓖 .A) (𝓜 .mem) (𝓡 .run)) 𝓜 𝓡 code.env #sender-boundary·open open-def.routine code.calls-sender-boundary·open (open-thm.met 𝓤 H 𝓜 𝓖 𝓡))
     (cited 𝓤 H (NumberOf 𝓤 H (𝓖 .A) (𝓜 .mem) (𝓡 .run)) 𝓜 𝓡 code.env #boundary·number-of number-of-def.routine code.calls-boundary·number-of (number-of-thm.met 𝓤 H 𝓜 𝓖 𝓡)))

@@ -56,10 +56,10 @@ use Rattle.sender_boundary.proofs.code_of as code-of
 use Rattle.sender_boundary.proofs.code_of.Symbol as code-of-def
 use Rattle.sender_boundary.proofs.code_of.Symbol.{name as #sender-boundary·code-of}
 use Rattle.sender_boundary.proofs.code_of.Met as code-of-thm
-use Rattle.ffi.proofs.sending.stewpigeon_sender_clock_in.Key.{name as #ffi·sending·stewpigeon-sender-clock-in}
-use Rattle.ffi.proofs.sending.stewpigeon_sender_clock_in as this
-use Rattle.ffi.proofs.sending.stewpigeon_sender_clock_in.Statement as stated
-use Rattle.ffi.proofs.sending.stewpigeon_sender_clock_in.Code as code
+use Rattle.stewpigeon.proofs.sending.stewpigeon_sender_clock_in.Key.{name as #stewpigeon·sending·stewpigeon-sender-clock-in}
+use Rattle.stewpigeon.proofs.sending.stewpigeon_sender_clock_in as this
+use Rattle.stewpigeon.proofs.sending.stewpigeon_sender_clock_in.Statement as stated
+use Rattle.stewpigeon.proofs.sending.stewpigeon_sender_clock_in.Code as code
 
 abbrev answers : Data
 answers = of-enum N.the-type N′.the-laws N′.the-plain tt
@@ -174,7 +174,7 @@ pub stewpigeon-sender-clock-in-spec : {M : Type 1} → stated.statement M
 unfolding code.routine tablesOf
 stewpigeon-sender-clock-in-spec 𝓤 H 𝓜 𝓖 𝓡 =
     entered 𝓤 H (tripleOf 𝓤 H (𝓖 .A) this.signature (this.spec 𝓤 H (𝓖 .A) (𝓜 .mem) (𝓡 .run)))
-    (tables 𝓤 H 𝓜 𝓡 code.env .C) (tables 𝓤 H 𝓜 𝓡 code.env .Λ) #ffi·sending·stewpigeon-sender-clock-in code.function (code.unfolded 𝓤 H 𝓜 𝓡)
+    (tables 𝓤 H 𝓜 𝓡 code.env .C) (tables 𝓤 H 𝓜 𝓡 code.env .Λ) #stewpigeon·sending·stewpigeon-sender-clock-in code.function (code.unfolded 𝓤 H 𝓜 𝓡)
     (meets 𝓤 H (𝓖 .A) (givenOf 𝓤 H 𝓜 𝓖) (𝓜 .mem) (𝓡 .run) (tablesOf 𝓤 H 𝓜 (tables 𝓤 H 𝓜 𝓡 code.env))
     (cited 𝓤 H (Clock 𝓤 H (𝓖 .A) (𝓜 .mem) (𝓡 .run)) 𝓜 𝓡 code.env #sender·Sender·clock clock-def.routine code.calls-sender·Sender·clock (clock-thm.met 𝓤 H 𝓜 𝓖 𝓡))
     (cited 𝓤 H (CodeOf 𝓤 H (𝓖 .A) (𝓜 .mem) (𝓡 .run)) 𝓜 𝓡 code.env #sender-boundary·code-of code-of-def.routine code.calls-sender-boundary·code-of (code-of-thm.met 𝓤 H 𝓜 𝓖 𝓡)))

@@ -44,10 +44,10 @@ use Rattle.boundary.proofs.text as text
 use Rattle.boundary.proofs.text.Symbol as text-def
 use Rattle.boundary.proofs.text.Symbol.{name as #boundary·text}
 use Rattle.boundary.proofs.text.Met as text-thm
-use Rattle.ffi.proofs.stewpigeon_text.Key.{name as #ffi·stewpigeon-text}
-use Rattle.ffi.proofs.stewpigeon_text as this
-use Rattle.ffi.proofs.stewpigeon_text.Statement as stated
-use Rattle.ffi.proofs.stewpigeon_text.Code as code
+use Rattle.stewpigeon.proofs.stewpigeon_text.Key.{name as #stewpigeon·stewpigeon-text}
+use Rattle.stewpigeon.proofs.stewpigeon_text as this
+use Rattle.stewpigeon.proofs.stewpigeon_text.Statement as stated
+use Rattle.stewpigeon.proofs.stewpigeon_text.Code as code
 
 abbrev answers : Data
 answers = of-record T.the-type T′.the-laws T′.the-plain
@@ -129,6 +129,6 @@ pub stewpigeon-text-spec : {M : Type 1} → stated.statement M
 unfolding code.routine tablesOf
 stewpigeon-text-spec 𝓤 H 𝓜 𝓖 𝓡 =
     entered 𝓤 H (tripleOf 𝓤 H (𝓖 .A) this.signature (this.spec 𝓤 H (𝓖 .A) (𝓜 .mem) (𝓡 .run)))
-    (tables 𝓤 H 𝓜 𝓡 code.env .C) (tables 𝓤 H 𝓜 𝓡 code.env .Λ) #ffi·stewpigeon-text code.function (code.unfolded 𝓤 H 𝓜 𝓡)
+    (tables 𝓤 H 𝓜 𝓡 code.env .C) (tables 𝓤 H 𝓜 𝓡 code.env .Λ) #stewpigeon·stewpigeon-text code.function (code.unfolded 𝓤 H 𝓜 𝓡)
     (meets 𝓤 H (𝓖 .A) (givenOf 𝓤 H 𝓜 𝓖) (𝓜 .mem) (𝓡 .run) (tablesOf 𝓤 H 𝓜 (tables 𝓤 H 𝓜 𝓡 code.env))
     (cited 𝓤 H (Judge 𝓤 H (𝓖 .A) (𝓜 .mem) (𝓡 .run)) 𝓜 𝓡 code.env #boundary·text text-def.routine code.calls-boundary·text (text-thm.met 𝓤 H 𝓜 𝓖 𝓡)))

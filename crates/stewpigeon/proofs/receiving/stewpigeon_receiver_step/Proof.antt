@@ -81,11 +81,11 @@ use Rattle.boundary.proofs.step_of.Met as step-of-thm
 use Rattle.boundary.proofs.record_of.Symbol as record-of-def
 use Rattle.boundary.proofs.record_of.Symbol.{name as #boundary·record-of}
 use Rattle.boundary.proofs.record_of.Met as record-of-thm
-use Rattle.ffi.proofs.Receivers.{receivers, records, RecordOf, recorded}
-use Rattle.ffi.proofs.receiving.stewpigeon_receiver_step.Key.{name as #ffi·receiving·stewpigeon-receiver-step}
-use Rattle.ffi.proofs.receiving.stewpigeon_receiver_step as this
-use Rattle.ffi.proofs.receiving.stewpigeon_receiver_step.Statement as stated
-use Rattle.ffi.proofs.receiving.stewpigeon_receiver_step.Code as code
+use Rattle.stewpigeon.proofs.Receivers.{receivers, records, RecordOf, recorded}
+use Rattle.stewpigeon.proofs.receiving.stewpigeon_receiver_step.Key.{name as #stewpigeon·receiving·stewpigeon-receiver-step}
+use Rattle.stewpigeon.proofs.receiving.stewpigeon_receiver_step as this
+use Rattle.stewpigeon.proofs.receiving.stewpigeon_receiver_step.Statement as stated
+use Rattle.stewpigeon.proofs.receiving.stewpigeon_receiver_step.Code as code
 
 abbrev answers : Data
 answers = of-enum N.the-type N′.the-laws N′.the-plain tt
@@ -279,7 +279,7 @@ pub stewpigeon-receiver-step-spec : {M : Type 1} → stated.statement M
 unfolding code.routine tablesOf
 stewpigeon-receiver-step-spec 𝓤 H 𝓜 𝓖 𝓡 =
     entered 𝓤 H (tripleOf 𝓤 H (𝓖 .A) this.signature (this.spec 𝓤 H (𝓖 .A) (𝓜 .mem) (𝓡 .run)))
-    (tables 𝓤 H 𝓜 𝓡 code.env .C) (tables 𝓤 H 𝓜 𝓡 code.env .Λ) #ffi·receiving·stewpigeon-receiver-step code.function (code.unfolded 𝓤 H 𝓜 𝓡)
+    (tables 𝓤 H 𝓜 𝓡 code.env .C) (tables 𝓤 H 𝓜 𝓡 code.env .Λ) #stewpigeon·receiving·stewpigeon-receiver-step code.function (code.unfolded 𝓤 H 𝓜 𝓡)
     (meets 𝓤 H (𝓖 .A) (givenOf 𝓤 H 𝓜 𝓖) (𝓜 .mem) (𝓡 .run) (tablesOf 𝓤 H 𝓜 (tables 𝓤 H 𝓜 𝓡 code.env))
     (cited 𝓤 H (Advance 𝓤 H (𝓖 .A) (𝓜 .mem) (𝓡 .run)) 𝓜 𝓡 code.env #boundary·advance advance-def.routine code.calls-boundary·advance (advance-thm.met 𝓤 H 𝓜 𝓖 𝓡))
     (cited 𝓤 H (NumberOfStep 𝓤 H (𝓖 .A) (𝓜 .mem) (𝓡 .run)) 𝓜 𝓡 code.env #boundary·number-of-step number-of-step-def.routine code.calls-boundary·number-of-step (number-of-step-thm.met 𝓤 H 𝓜 𝓖 𝓡))

@@ -70,11 +70,11 @@ use Rattle.boundary.proofs.expected_of.Met as expected-of-thm
 use Rattle.boundary.proofs.number_of.Symbol as number-of-def
 use Rattle.boundary.proofs.number_of.Symbol.{name as #boundary·number-of}
 use Rattle.boundary.proofs.number_of.Met as number-of-thm
-use Rattle.ffi.proofs.Outcomes.{outcomes, NumberOf, numbers}
-use Rattle.ffi.proofs.stewpigeon_read.Key.{name as #ffi·stewpigeon-read}
-use Rattle.ffi.proofs.stewpigeon_read as this
-use Rattle.ffi.proofs.stewpigeon_read.Statement as stated
-use Rattle.ffi.proofs.stewpigeon_read.Code as code
+use Rattle.stewpigeon.proofs.Outcomes.{outcomes, NumberOf, numbers}
+use Rattle.stewpigeon.proofs.stewpigeon_read.Key.{name as #stewpigeon·stewpigeon-read}
+use Rattle.stewpigeon.proofs.stewpigeon_read as this
+use Rattle.stewpigeon.proofs.stewpigeon_read.Statement as stated
+use Rattle.stewpigeon.proofs.stewpigeon_read.Code as code
 
 abbrev packets : Data
 packets = of-record P.the-type P′.the-laws P′.the-plain
@@ -233,7 +233,7 @@ pub stewpigeon-read-spec : {M : Type 1} → stated.statement M
 unfolding code.routine tablesOf
 stewpigeon-read-spec 𝓤 H 𝓜 𝓖 𝓡 =
     entered 𝓤 H (tripleOf 𝓤 H (𝓖 .A) this.signature (this.spec 𝓤 H (𝓖 .A) (𝓜 .mem) (𝓡 .run)))
-    (tables 𝓤 H 𝓜 𝓡 code.env .C) (tables 𝓤 H 𝓜 𝓡 code.env .Λ) #ffi·stewpigeon-read code.function (code.unfolded 𝓤 H 𝓜 𝓡)
+    (tables 𝓤 H 𝓜 𝓡 code.env .C) (tables 𝓤 H 𝓜 𝓡 code.env .Λ) #stewpigeon·stewpigeon-read code.function (code.unfolded 𝓤 H 𝓜 𝓡)
     (meets 𝓤 H (𝓖 .A) (givenOf 𝓤 H 𝓜 𝓖) (𝓜 .mem) (𝓡 .run) (tablesOf 𝓤 H 𝓜 (tables 𝓤 H 𝓜 𝓡 code.env))
     (cited 𝓤 H (ExpectedOf 𝓤 H (𝓖 .A) (𝓜 .mem) (𝓡 .run)) 𝓜 𝓡 code.env #boundary·expected-of expected-of-def.routine code.calls-boundary·expected-of (expected-of-thm.met 𝓤 H 𝓜 𝓖 𝓡))
     (cited 𝓤 H (Read 𝓤 H (𝓖 .A) (𝓜 .mem) (𝓡 .run)) 𝓜 𝓡 code.env #reader·read-from read-def.routine code.calls-reader·read-from (read-thm.met 𝓤 H 𝓜 𝓖 𝓡))
