@@ -2,9 +2,8 @@
 
 use std::io::BufRead;
 
-use independent::journal::LONGEST;
-
 use crate::input::Input;
+use crate::journal::LONGEST;
 
 /// Whether a capture is of this kind: it starts with a hex digit or a
 /// comment, maybe after blanks.

@@ -9,7 +9,7 @@ use std::process::exit;
 use stewpigeon::{read, Packet};
 
 const USAGE: &str = "\
-Usage: inspect [--t140 N] [--red N] [FILE]
+Usage: stewpigeon-inspect [--t140 N] [--red N] [FILE]
 
 Reads RTP text packets (RFC 4103), one to a line in hex, from FILE or from
 standard input, and prints what each one holds or why it is refused. Blank
@@ -164,7 +164,7 @@ fn run() -> Result<(), String> {
 
 fn main() {
     if let Err(wrong) = run() {
-        eprintln!("inspect: {wrong}");
+        eprintln!("stewpigeon-inspect: {wrong}");
         exit(2);
     }
 }

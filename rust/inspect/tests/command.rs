@@ -2,7 +2,7 @@ use std::io::Write;
 use std::process::{Command, Output, Stdio};
 
 fn inspect(arguments: &[&str], input: &str) -> Output {
-    let mut child = Command::new(env!("CARGO_BIN_EXE_inspect"))
+    let mut child = Command::new(env!("CARGO_BIN_EXE_stewpigeon-inspect"))
         .args(arguments)
         .stdin(Stdio::piped())
         .stdout(Stdio::piped())
@@ -54,10 +54,13 @@ fn bad_hex_and_bad_usage() {
 
 #[test]
 fn closed_output() {
-    for arguments in [&["../captures/ms2_red_typed1.hex"][..], &["--help"]] {
+    for arguments in [
+        &["../../reference/captures/ms2_red_typed1.hex"][..],
+        &["--help"],
+    ] {
         let (reader, writer) = std::io::pipe().unwrap();
         drop(reader);
-        let output = Command::new(env!("CARGO_BIN_EXE_inspect"))
+        let output = Command::new(env!("CARGO_BIN_EXE_stewpigeon-inspect"))
             .args(arguments)
             .stdout(writer)
             .output()
@@ -71,5 +74,5 @@ fn closed_output() {
 fn help() {
     let output = inspect(&["--help"], "");
     assert_eq!(output.status.code(), Some(0));
-    assert!(text(&output.stdout).starts_with("Usage: inspect"));
+    assert!(text(&output.stdout).starts_with("Usage: stewpigeon-inspect"));
 }

@@ -7,6 +7,7 @@ use std::io::{BufRead, Read};
 pub mod choose;
 pub mod hex;
 pub mod input;
+pub mod journal;
 pub mod link;
 pub mod notes;
 pub mod options;

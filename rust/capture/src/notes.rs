@@ -2,8 +2,7 @@
 
 use std::collections::BTreeMap;
 
-use independent::journal::LONGEST;
-
+use crate::journal::LONGEST;
 use crate::link::TAGS;
 use crate::options::Options;
 

@@ -10,7 +10,7 @@ use independent::transcript::transcript;
 
 const CAPTURE: &str = concat!(
     env!("CARGO_MANIFEST_DIR"),
-    "/../captures/ms2_red_typed1_lossy.pcap"
+    "/../../reference/captures/ms2_red_typed1_lossy.pcap"
 );
 const EXPECTED: &str = "Hello, worldé€😀x\u{fffd}\u{fffd}\n\npackets 9 late 0 lost 2 refused 0\n";
 

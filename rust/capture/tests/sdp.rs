@@ -171,7 +171,10 @@ fn run(sdp: &str, arguments: &[&str]) -> Output {
         .arg("--sdp")
         .arg(path)
         .args(arguments)
-        .current_dir(concat!(env!("CARGO_MANIFEST_DIR"), "/../captures"))
+        .current_dir(concat!(
+            env!("CARGO_MANIFEST_DIR"),
+            "/../../reference/captures"
+        ))
         .output()
         .unwrap()
 }

@@ -5,10 +5,10 @@ use capture::options::Options;
 use independent::journal;
 use independent::transcript::transcript;
 
-const RED: &[u8] = include_bytes!("../../captures/ms2_red_typed1.hex");
-const RED_ALONE: &[u8] = include_bytes!("../../captures/ms2_red_typed1_rtponly.hex");
-const T140: &[u8] = include_bytes!("../../captures/ms2_t140_typed1.hex");
-const LOSSY: &[u8] = include_bytes!("../../captures/ms2_red_typed1_lossy.pcap");
+const RED: &[u8] = include_bytes!("../../../reference/captures/ms2_red_typed1.hex");
+const RED_ALONE: &[u8] = include_bytes!("../../../reference/captures/ms2_red_typed1_rtponly.hex");
+const T140: &[u8] = include_bytes!("../../../reference/captures/ms2_t140_typed1.hex");
+const LOSSY: &[u8] = include_bytes!("../../../reference/captures/ms2_red_typed1_lossy.pcap");
 
 const TYPED: &str = "Hello, worldé€😀x\u{8}\n";
 

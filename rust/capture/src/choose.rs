@@ -1,11 +1,7 @@
 //! Which packets go into the journal.
 
-use std::mem;
-
-use independent::journal::LONGEST;
-use independent::recorder::Recorder;
-
 use crate::hex::Line;
+use crate::journal::{Journal, LONGEST};
 use crate::link::{carried, known, Carried};
 use crate::notes::Counts;
 use crate::options::Options;
@@ -38,7 +34,7 @@ fn of_source(options: &Options, payload: &[u8]) -> bool {
 /// Makes a journal of the packets that the options choose, as they come.
 pub struct Chooser<'a> {
     options: &'a Options,
-    journal: Recorder,
+    journal: Journal,
     /// The time of the first packet that has one.
     start: Option<i128>,
     counts: Counts,
@@ -48,7 +44,7 @@ impl<'a> Chooser<'a> {
     pub fn new(options: &'a Options) -> Self {
         Chooser {
             options,
-            journal: Recorder::open(options.t140(), options.red()),
+            journal: Journal::open(options.t140(), options.red()),
             start: None,
             counts: Counts::default(),
         }
@@ -130,12 +126,12 @@ impl<'a> Chooser<'a> {
                 *self.counts.sources.entry(source).or_default() += 1;
             }
         }
-        let mut journal = mem::take(&mut self.journal);
         if let Some((time, start)) = time.zip(self.start) {
-            journal = journal.time(self.milliseconds(time - start));
+            let milliseconds = self.milliseconds(time - start);
+            self.journal.time(milliseconds);
         }
-        self.journal = journal.packet(payload);
-        match self.journal.bytes.len() > MOST {
+        self.journal.packet(payload);
+        match self.journal.length() > MOST {
             true => Err(format!(
                 "its journal is longer than {MOST} bytes; take fewer packets, by --port or --ssrc"
             )),
