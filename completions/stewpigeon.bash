@@ -31,5 +31,7 @@ _stewpigeon() {
     esac
 }
 
-complete -F _stewpigeon capture-to-journal journal stewpigeon-inspect inspect \
-    stewpigeon-transcript transcript stewpigeon-archive archive
+complete -F _stewpigeon capture-to-journal stewpigeon-inspect stewpigeon-transcript stewpigeon-archive
+if [[ -e $(dirname "${BASH_SOURCE[0]}")/../tools/archive ]]; then
+    complete -F _stewpigeon journal inspect transcript archive
+fi
