@@ -46,7 +46,7 @@ static void receive(struct stewpigeon_receiver *receiver, const uint8_t *packet,
 int main(void)
 {
     static const char *const words[] = {"buy ", "400 ", "May ", "wheat ", "at ", "612; ", "sell ", "20 ", "July ", "corn ", "at ", "431\n"};
-    enum { WORDS = sizeof words / sizeof words[0] };
+    const size_t count = sizeof words / sizeof words[0];
     struct stewpigeon_sender sender;
     struct stewpigeon_receiver receiver;
     uint8_t packet[STEWPIGEON_LONGEST];
@@ -55,9 +55,9 @@ int main(void)
     check(stewpigeon_sender_open(&sender, LEVEL, STEWPIGEON_BUFFERING_MS, T140, RED, 65530, 1000, 0x5eed), "opening the sender");
     check(stewpigeon_receiver_open(&receiver, T140, RED), "opening the receiver");
 
-    for (uint64_t clock = 0; clock < (WORDS + LEVEL + 1) * STEWPIGEON_BUFFERING_MS; clock += STEWPIGEON_BUFFERING_MS) {
+    for (uint64_t clock = 0; clock < (count + LEVEL + 1) * STEWPIGEON_BUFFERING_MS; clock += STEWPIGEON_BUFFERING_MS) {
         size_t word = clock / STEWPIGEON_BUFFERING_MS;
-        if (word < WORDS)
+        if (word < count)
             check(stewpigeon_sender_offer(&sender, clock, (const uint8_t *)words[word], strlen(words[word])), "the offer");
         int64_t length = stewpigeon_sender_clock(&sender, clock, packet, sizeof packet);
         if (length < 0)

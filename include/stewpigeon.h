@@ -1,7 +1,8 @@
 /*
  * Stewpigeon: a proved sender and receiver of RTP text (RFC 4103), and a packet reader.
  *
- * Link with libffi.a, which `rt staticlib ffi` writes to target/staticlib.
+ * Link with libstewpigeon.a: `pkg-config --cflags --libs stewpigeon` tells how where it is installed (`make install`);
+ * `rt staticlib stewpigeon` writes it to target/staticlib.
  *
  * Records belong to the caller, who lends them for the time of a call. Any values of their fields get an answer; only
  * a record that the opening filled and nobody else wrote to does what a line should. In a flag 0 is false and all else
@@ -14,6 +15,11 @@
 
 #include <stddef.h>
 #include <stdint.h>
+
+/* The version: all else that names it is made from this, or held to it. */
+#define STEWPIGEON_VERSION_MAJOR 0
+#define STEWPIGEON_VERSION_MINOR 1
+#define STEWPIGEON_VERSION_PATCH 0
 
 #ifdef __cplusplus
 extern "C" {

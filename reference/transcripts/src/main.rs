@@ -23,7 +23,7 @@ happens when the output cannot be written.
   --journals N   how many of them (default 20000)
   --help         print this text
 
-The program is ../target/bin/transcript in the repository; the variable
+The program is target/bin/transcript in the repository; the variable
 STEWPIGEON_TRANSCRIPT names another one.
 
 The exit status is 0 where nothing differs, 1 at the first difference, whose

@@ -23,7 +23,7 @@ most memory that each of them held.
   --rounds N    rounds, in each of which both programs run (default 7)
   --help        print this text
 
-The program is ../target/bin/transcript in the repository; the variable
+The program is target/bin/transcript in the repository; the variable
 STEWPIGEON_TRANSCRIPT names another one.";
 
 /// Runs this program as the independent transcript.
