@@ -2,8 +2,9 @@
 use Prim.Native.Nat.{ℕ, _≤_}
 use mathlib.Core.Path.{_≡_}
 use mathlib.Core.List.{List}
-use mathlib.Core.Bool.{Bool, true, false}
-use lib.ListN.{length, take, drop}
+use mathlib.Core.Bool.{Bool, true, false, cond}
+use lib.Dec.{ltb, eqb}
+use lib.ListN.{length, getD, take, drop}
 use Rattle.base.specs.Arrays.{over}
 use Rattle.parts.specs.declared.Part.{Part}
 use Rattle.parts.specs.Bytes.{Reading, readTo, unread, going, pieceEnd}
@@ -22,6 +23,10 @@ pub record Went (r : Reader) (p s : List ℕ) (r' : Reader) (p' : List ℕ) (use
   pub reads : readTo (readingOf r p) s ≡ readTo (readingOf r' p') (drop used s)
   pub leaves : unread (readingOf r p) s ≡ unread (readingOf r' p') (drop used s)
   pub lends : lentAfter (readingOf r p) s p ≡ lentAfter (readingOf r' p') (drop used s) p'
+
+-- how many bytes the whole time has with which s begins
+abbrev pub wholeTime : List ℕ → ℕ
+wholeTime s = cond (ltb 8 (length s)) (cond (eqb (getD s 0 0) 4) 9 0) 0
 
 -- within a packet, or behind its last piece
 abbrev pub inPacket : Bool → ℕ → List ℕ → Reading
