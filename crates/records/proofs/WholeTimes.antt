@@ -4,11 +4,9 @@ use mathlib.Core.Path.{_≡_, refl, ap, sym}
 use mathlib.Core.List.{List}
 use mathlib.Core.Bool.{true}
 use native.Mathlib.Omega.{arith}
-use borrow.Author.Tests.{ltb-true, le-ltb, eqb-true}
-use lib.Dec.{ltb, eqb}
+use borrow.Author.Tests.{le-ltb}
 use lib.ListN.{length, getD, take, drop, length-drop}
 use lib.Seq.{drop-drop, length-take-le}
-use Rattle.base.proofs.Tests.{by-test}
 use Rattle.journal_spec.specs.Contents.{longestPacket}
 use Rattle.parts.specs.declared.Part.the-variants.{Kind, Time}
 use Rattle.parts.specs.Bytes.{Reading, going, byte, at}
@@ -16,9 +14,8 @@ use Rattle.parts.proofs.Laws.{Moves, andThen, first, time-end}
 use Rattle.reading.specs.declared.Reader.{Reader}
 use Rattle.reading.specs.Reading.{readingOf, sound}
 use Rattle.reading.proofs.Sound.{fits}
-use Rattle.records.specs.internal.Turns.{Went, wholeTime}
+use Rattle.records.specs.internal.Turns.{Passes, Went}
 use Rattle.records.proofs.Turns.{went}
-use Rattle.records.proofs.TurnsInOrder.{gone}
 
 one-time : (r : Reading) (s : List ℕ) → r .part ≡ Kind → r .size ≤ length (r .pieces) → 8 < length s → getD s 0 0 ≡ 4 → Moves r s r (drop 9 s)
 one-time r s e h l k =
@@ -28,17 +25,13 @@ one-time r s e h l k =
     andThen (rw b at (first r s (omega arith) (ap going e)))
     (rw (drop-drop 8 1 s, same) at (time-end r 8 (drop 1 s) 8 (omega arith) refl (omega arith)))
 
--- behind it the reader is where it was
-pub past-time : (r : Reader) (p s : List ℕ) → r .part ≡ Kind → sound r ≡ true → longestPacket ≤ length p → r .size ≤ r .at
-    → (n : ℕ) → n ≡ wholeTime s → Went r p s r p n
-past-time r p s e ok big outside n ne =
+pub passes-time : (s : List ℕ) → 8 < length s → getD s 0 0 ≡ 4 → Passes s 9
+passes-time s l k = record { within = omega arith; reads = λ r e h. one-time r s e h l k .to; leaves = λ r e h. one-time r s e h l k .left }
+
+pub passes-none : (s : List ℕ) → Passes s 0
+passes-none s = record { within = omega arith; reads = λ _ _ _. refl; leaves = λ _ _ _. refl }
+
+pub past : (r : Reader) (p s : List ℕ) → r .part ≡ Kind → sound r ≡ true → longestPacket ≤ length p → r .size ≤ r .at → (n : ℕ) → Passes s n → Went r p s r p n
+past r p s e ok big outside n w =
     let l : length (take (r .at) p) ≡ r .at = length-take-le (r .at) p (omega (arith, fits r ok)) in
-    rw ne (by-test P (ltb 8 (length s))
-    (λ h. by-test P (eqb (getD s 0 0) 4)
-    (λ k. went ok (omega (arith, ltb-true 8 (length s) h))
-    (one-time (readingOf r p) s e (omega arith) (ltb-true 8 (length s) h) (eqb-true (getD s 0 0) 4 k)))
-    (λ _. gone r p s ok))
-    (λ _. gone r p s ok))
-  where
-    P : ℕ → Type 0
-    P k = Went r p s r p k
+    went ok (w .within) (record { to = w .reads (readingOf r p) e (omega arith); left = w .leaves (readingOf r p) e (omega arith) })

@@ -8,7 +8,7 @@ ghost use Rattle.journal_spec.specs.Contents.{longestPacket};
 ghost use Rattle.parts.specs.Sound.{wholePieces};
 ghost use Rattle.reading.specs.Reading.{sound};
 ghost use Rattle.records.specs.internal.Reading.{ReadAll};
-ghost use Rattle.records.specs.internal.Turns.{Gathers, Went, Turned, wholeTime};
+ghost use Rattle.records.specs.internal.Turns.{Gathers, Passes, Went, Turned};
 use parts::Part;
 use reading::Done;
 use reading::Reader;
@@ -163,7 +163,7 @@ fn turns(r: Reader, input: &[u8], packet: &mut [u8]) -> Done
 
 // How many bytes the whole time has with which the input begins.
 fn whole_time(input: &[u8]) -> usize
-    ensures { λ n. ⌜ (n ≡ wholeTime (now (input .entry))) × (n ≤ length (now (input .entry))) ⌝ }
+    ensures { λ n. ⌜ Passes (now (input .entry)) n ⌝ }
 {
     if Part::TIME < input.len() {
         if input[0] == 4 {

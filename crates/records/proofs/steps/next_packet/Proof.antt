@@ -1,6 +1,6 @@
 use denote.Ref.{now}
 use Rattle.records.proofs.TurnsInOrder.{went-on}
-use Rattle.records.proofs.WholeTimes.{past-time}
+use Rattle.records.proofs.WholeTimes.{past}
 use borrow.Author.Needs.{needs}
 use Rattle.records.proofs.steps.next_packet.Statement.{statement}
 use Rattle.records.proofs.steps.next_packet.Tie as tie
@@ -39,7 +39,7 @@ returns-2 c =
     let w = c .before .before .before .before .before .before .before .before .before .before .whole-time in
     let t = c .before .before .before .before .begin-packet in
     went-on (a .r) (now (a .packet)) (now (a .input)) (a .r) (now (a .packet)) (w .result)
-    (past-time (a .r) (now (a .packet)) (now (a .input)) (st .pre .0) (st .pre .1) (st .pre .2) (c .before .before .before .before .before .before .before .before .before .before .before .before .if1 .left) (w .result) (w .ensures .0))
+    (past (a .r) (now (a .packet)) (now (a .input)) (st .pre .0) (st .pre .1) (st .pre .2) (c .before .before .before .before .before .before .before .before .before .before .before .before .if1 .left) (w .result) (w .ensures))
     (t .result .reader) (t .last .1 .1 .0) (t .result .used) (t .ensures .goes)
 
 returns-3 : tie.Need-returns-3
