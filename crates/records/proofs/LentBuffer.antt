@@ -6,8 +6,8 @@ use mathlib.Core.Bool.{Bool, true, false, cond, true≢false}
 use native.Mathlib.Nat.{le-trans}
 use native.Mathlib.Omega.{arith}
 use lib.Dec.{ltb, leb, eqb}
-use lib.ListN.{length, take, drop, length-append}
-use lib.Seq.{drop-drop, drop-append-seam, length-take-le}
+use lib.ListN.{length, drop, length-append}
+use lib.Seq.{drop-drop, drop-append-seam}
 use Rattle.base.specs.Arrays.{over}
 use Rattle.base.proofs.Tests.{by-test}
 use Rattle.parts.specs.declared.Part.{Part}
@@ -89,11 +89,9 @@ pub lends-put : (r : Reading) (s p p' : List ℕ) (a : ℕ) → Growing r → le
 lends-put r s p p' a g l e =
     ap (λ (x : List ℕ). readTo r s .pieces ++ x) (further a (length (readTo r s .pieces)) p p' (omega (arith, grows r s g)) e)
 
--- reading is over, so p is p₀ behind the pieces
-pub lends-all : (a : ℕ) (p p₀ : List ℕ) → a ≤ length p → over (take a p) p₀ ≡ over (take a p) p → drop a p ≡ drop a p₀
-lends-all a p p₀ h e =
-    let l : length (take a p) ≡ a = length-take-le a p h in
-    let x = take a p in
+-- behind what lies over both, they are the same
+pub lends-all : (a : ℕ) (x p p₀ : List ℕ) → length x ≡ a → over x p₀ ≡ over x p → drop a p ≡ drop a p₀
+lends-all a x p p₀ l e =
     ap (λ (k : ℕ). drop k p) (sym l)
     ∙ sym (drop-append-seam x (drop (length x) p))
     ∙ ap (drop (length x)) (sym e)

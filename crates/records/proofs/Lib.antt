@@ -4,3 +4,4 @@ pub mod SingleBytes
 pub mod Pieces
 pub mod TurnsInOrder
 pub mod WholePieces
+pub mod WholeTimes

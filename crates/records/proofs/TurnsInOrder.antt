@@ -5,7 +5,7 @@ use mathlib.Core.List.{List, [], _∷_}
 use mathlib.Core.Bool.{Bool, true, false}
 use native.Mathlib.Omega.{arith}
 use lib.ListN.{length, take, drop, drop-of-length-le, length-drop}
-use lib.Seq.{drop-drop}
+use lib.Seq.{drop-drop, length-take-le}
 use Rattle.journal_spec.specs.Contents.{longestPacket}
 use Rattle.base.specs.Arrays.{over}
 use Rattle.reading.specs.declared.Reader.{Reader}
@@ -57,7 +57,7 @@ module _ (r₀ : Reader) (p₀ s : List ℕ) (r : Reader) (p : List ℕ) (i : �
     within = w .within;
     reads = sym (w .reads ∙ o .0);
     leaves = sym (w .leaves ∙ o .1);
-    keeps = lends-all (r .at) p p₀ (omega (arith, fits r (w .still)))
+    keeps = lends-all (r .at) (take (r .at) p) p p₀ (length-take-le (r .at) p (omega (arith, fits r (w .still))))
         (ap (λ (x : Reading). over (x .pieces) p₀) (sym (w .reads ∙ o .0)) ∙ w .lends ∙ ap (λ (x : Reading). over (x .pieces) p) (o .0));
   }
 
@@ -66,6 +66,24 @@ module _ (r₀ : Reader) (p₀ s : List ℕ) (r : Reader) (p : List ℕ) (i : �
 
   pub at-stop : longestPacket ≤ length p → going (r .part) ≡ false → ReadAll r₀ p₀ s r p i
   at-stop big h = all-read big (over-stop (readingOf r p) (drop i s) h)
+
+  -- and the rest is read from there
+  module _ (r' : Reader) (p' : List ℕ) (n : ℕ) (t : ReadAll r p (take (length s - i) (drop i s)) r' p' n) (big : longestPacket ≤ length p') where
+    rest : ReadAll r p (drop i s) r' p' n
+    rest = rw (behind i s) at t
+
+    whole : readTo (readingOf r₀ p₀) s ≡ readingOf r' p'
+    whole = w .reads ∙ sym (rest .reads)
+
+    pub read-rest : ReadAll r₀ p₀ s r' p' (i + n)
+    read-rest = record {
+      still = rest .still;
+      within = omega (arith, rest .within, w .within, length-drop i s);
+      reads = sym whole;
+      leaves = sym (drop-drop n i s) ∙ rest .leaves ∙ sym (w .leaves);
+      keeps = rest .keeps ∙ lends-all (r' .at) (take (r' .at) p') p p₀ (length-take-le (r' .at) p' (omega (arith, fits r' (rest .still))))
+          (ap (λ (x : Reading). over (x .pieces) p₀) (sym whole) ∙ w .lends ∙ ap (λ (x : Reading). over (x .pieces) p) (sym (rest .reads)));
+    }
 
 -- the last turn used nothing
 pub turn-last : (r₀ : Reader) (p₀ s : List ℕ) (r : Reader) (p : List ℕ) (i : ℕ) → Went r₀ p₀ s r p i

@@ -8,7 +8,7 @@ ghost use Rattle.journal_spec.specs.Contents.{longestPacket};
 ghost use Rattle.parts.specs.Sound.{wholePieces};
 ghost use Rattle.reading.specs.Reading.{sound};
 ghost use Rattle.records.specs.internal.Reading.{ReadAll};
-ghost use Rattle.records.specs.internal.Turns.{Gathers, Turned};
+ghost use Rattle.records.specs.internal.Turns.{Gathers, Passes, Went, Turned};
 use parts::Part;
 use reading::Done;
 use reading::Reader;
@@ -101,13 +101,6 @@ fn at_kind(r: Reader, input: &[u8], packet: &mut [u8]) -> Done
     if r.at < r.size {
         return more_pieces(r, input, packet);
     }
-    if r.opened {
-        if 2 < input.len() {
-            if input[0] == 2 {
-                return begin_packet(r, input, packet);
-            }
-        }
-    }
     kind_byte(r, input, packet)
 }
 
@@ -142,7 +135,8 @@ fn turn(r: Reader, input: &[u8], packet: &mut [u8]) -> Done
     }
 }
 
-pub fn run(r: Reader, input: &[u8], packet: &mut [u8]) -> Done
+// Turn by turn.
+fn turns(r: Reader, input: &[u8], packet: &mut [u8]) -> Done
     requires { ⌜ (sound r ≡ true) × (longestPacket ≤ length (now packet)) ⌝ }
     ensures { λ q. ⌜ ReadAll r (now (packet .entry)) (now (input .entry)) (q .reader) (now (packet .exit)) (q .used) ⌝ }
 {
@@ -164,5 +158,75 @@ pub fn run(r: Reader, input: &[u8], packet: &mut [u8]) -> Done
     Done {
         reader: now_at,
         used: i,
+    }
+}
+
+// How many bytes the whole time has with which the input begins.
+fn whole_time(input: &[u8]) -> usize
+    ensures { λ n. ⌜ Passes (now (input .entry)) n ⌝ }
+{
+    if Part::TIME < input.len() {
+        if input[0] == 4 {
+            return 1 + Part::TIME;
+        }
+    }
+    0
+}
+
+// At a kind byte: a packet that begins there, or behind a whole time, with its whole pieces.
+fn next_packet(r: Reader, input: &[u8], packet: &mut [u8]) -> Done
+    requires { ⌜ (r .part ≡ Part.Kind) × (sound r ≡ true) × (longestPacket ≤ length (now packet)) ⌝ }
+    ensures { λ q. ⌜ Went r (now (packet .entry)) (now (input .entry)) (q .reader) (now (packet .exit)) (q .used) ⌝ }
+{
+    if r.at < r.size {
+        return Done { reader: r, used: 0 };
+    }
+    if r.opened {
+        let before = whole_time(input);
+        let rest = &input[before..];
+        if 2 < rest.len() {
+            if rest[0] == 2 {
+                let t = begin_packet(r, rest, packet);
+                let reader = t.reader;
+                return Done {
+                    reader,
+                    used: before + t.used,
+                };
+            }
+        }
+    }
+    Done { reader: r, used: 0 }
+}
+
+// The next packet, where all that comes before it is whole.
+fn start(r: Reader, input: &[u8], packet: &mut [u8]) -> Done
+    requires { ⌜ (sound r ≡ true) × (longestPacket ≤ length (now packet)) ⌝ }
+    ensures { λ q. ⌜ Went r (now (packet .entry)) (now (input .entry)) (q .reader) (now (packet .exit)) (q .used) ⌝ }
+{
+    let part = r.part;
+    match part {
+        Part::Kind => next_packet(r, input, packet),
+        _ => Done { reader: r, used: 0 },
+    }
+}
+
+// Most calls find a whole packet and are done with it; the turns are for the others.
+pub fn run(r: Reader, input: &[u8], packet: &mut [u8]) -> Done
+    requires { ⌜ (sound r ≡ true) × (longestPacket ≤ length (now packet)) ⌝ }
+    ensures { λ q. ⌜ ReadAll r (now (packet .entry)) (now (input .entry)) (q .reader) (now (packet .exit)) (q .used) ⌝ }
+{
+    let started = start(r, input, packet);
+    let first = started.reader;
+    let part = first.part;
+    let going = part.is_going();
+    if !going {
+        return started;
+    }
+    let used = started.used;
+    let t = turns(first, &input[used..], packet);
+    let reader = t.reader;
+    Done {
+        reader,
+        used: used + t.used,
     }
 }

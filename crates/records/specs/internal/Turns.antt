@@ -6,6 +6,7 @@ use mathlib.Core.Bool.{Bool, true, false}
 use lib.ListN.{length, take, drop}
 use Rattle.base.specs.Arrays.{over}
 use Rattle.parts.specs.declared.Part.{Part}
+use Rattle.parts.specs.declared.Part.the-variants.{Kind}
 use Rattle.parts.specs.Bytes.{Reading, readTo, unread, going, pieceEnd}
 use Rattle.parts.specs.Sound.{wholePieces}
 use Rattle.reading.specs.declared.Reader.{Reader}
@@ -22,6 +23,12 @@ pub record Went (r : Reader) (p s : List ℕ) (r' : Reader) (p' : List ℕ) (use
   pub reads : readTo (readingOf r p) s ≡ readTo (readingOf r' p') (drop used s)
   pub leaves : unread (readingOf r p) s ≡ unread (readingOf r' p') (drop used s)
   pub lends : lentAfter (readingOf r p) s p ≡ lentAfter (readingOf r' p') (drop used s) p'
+
+-- between records, reading passes the first n bytes of s and is where it was
+pub record Passes (s : List ℕ) (n : ℕ) : Type 0 where
+  pub within : n ≤ length s
+  pub reads : (r : Reading) → r .part ≡ Kind → r .size ≤ length (r .pieces) → readTo r s ≡ readTo r (drop n s)
+  pub leaves : (r : Reading) → r .part ≡ Kind → r .size ≤ length (r .pieces) → unread r s ≡ unread r (drop n s)
 
 -- within a packet, or behind its last piece
 abbrev pub inPacket : Bool → ℕ → List ℕ → Reading

@@ -1,104 +1,72 @@
-use Prim.Native.Nat.{_≤_, _-_}
-use mathlib.Core.Path.{_≡_, refl}
-use native.Mathlib.Omega.{arith}
-use borrow.Author.Needs.{needs}
+use Prim.Native.Nat.{_≤_}
+use mathlib.Core.Path.{_∙_, sym}
 use denote.Ref.{now}
-use lib.ListN.{length, length-take, length-drop}
+use lib.ListN.{length}
+use borrow.Author.Tests.{not-true}
 use Rattle.journal_spec.specs.Contents.{longestPacket}
-use Rattle.records.specs.internal.Turns.{Went}
-use Rattle.records.proofs.TurnsInOrder.{gone, went-on, at-end, turn-last}
+use Rattle.records.proofs.TurnsInOrder.{at-stop, read-rest}
+use borrow.Author.Needs.{needs}
 use Rattle.records.proofs.steps.run.Statement.{statement}
 use Rattle.records.proofs.steps.run.Tie as tie
 
-abbrev Inv-loop : tie.InvT-loop
-Inv-loop input packet₀ now-at₀ i₀ packet now-at i =
-    Went now-at₀ packet₀ input now-at packet i × (length packet ≡ length packet₀) × (longestPacket ≤ length packet)
+start-requires : tie.Need-start-requires
+start-requires c κs = search needs
 
-abbrev μ-loop : tie.MeasureT-loop
-μ-loop input packet₀ now-at₀ i₀ packet now-at i = length input - i
+is-going-requires : tie.Need-is-going-requires
+is-going-requires c κs = search needs
 
-loop-holds : tie.Need-loop-holds Inv-loop μ-loop
-loop-holds c = (gone _ _ _ (c .before .before .pre .0), refl, c .before .before .pre .1)
-
-sub-turn : tie.Need-sub-turn Inv-loop μ-loop
-sub-turn c = search needs
-
-part-turn-start : tie.Need-part-turn-start Inv-loop μ-loop
-part-turn-start c = search needs
-
-part-turn-end : tie.Need-part-turn-end Inv-loop μ-loop
-part-turn-end c = search needs
-
-turn-requires : tie.Need-turn-requires Inv-loop μ-loop
-turn-requires c κs =
-    let l = c .before .before .before .loop in
-    let d = length-drop (l .i) (now (c .before .before .before .before .before .before .args .input)) in
-    (l .inv .0 .still, simp (length-take, length-drop) (omega arith), l .inv .2)
-
-same-length : tie.Need-same-length Inv-loop μ-loop
+same-length : tie.Need-same-length
 same-length c = search needs
 
-returns : tie.Need-returns Inv-loop μ-loop
+returns : tie.Need-returns
 returns c =
-    let a = c .before .before .before .before .before .before .before .before .before .before .before .args in
-    let l = c .before .before .before .before .before .before .before .before .loop in
-    let t = c .before .before .before .before .turn in
-    turn-last (a .r) (now (a .packet)) (now (a .input)) (l .now-at) (l .packet) (l .i) (l .inv .0) (t .result .reader)
-    (t .last .1 .1 .0) (t .result .used) (t .ensures) (search needs) (c .if1 .taken)
+    let st = c .before .before .before .before .before .before .before .before .before in
+    let a = st .args in
+    let t = c .before .before .before .before .before .start in
+    let big : longestPacket ≤ length (t .last .1 .1 .0) = search needs in
+    at-stop (a .r) (now (a .packet)) (now (a .input)) (t .result .reader) (t .last .1 .1 .0) (t .result .used) (t .ensures) big
+    (sym (c .before .is-going .ensures) ∙ not-true _ (c .if1 .taken))
 
-add-i : tie.Need-add-i Inv-loop μ-loop
-add-i c =
-    let a = c .before .before .before .before .before .before .before .before .before .before .before .args in
-    let l = c .before .before .before .before .before .before .before .before .loop in
-    let t = c .before .before .before .before .turn in
-    let w = went-on (a .r) (now (a .packet)) (now (a .input)) (l .now-at) (l .packet) (l .i) (l .inv .0) (t .result .reader)
-    (t .last .1 .1 .0) (t .result .used) (t .ensures .goes) in
-    search needs
+sub-turns : tie.Need-sub-turns
+sub-turns c = search needs
 
-loop-less : tie.Need-loop-less Inv-loop μ-loop
-loop-less c =
-    let a = c .before .before .before .before .before .before .before .before .before .before .before .args in
-    let l = c .before .before .before .before .before .before .before .before .loop in
-    let t = c .before .before .before .before .turn in
-    let w = went-on (a .r) (now (a .packet)) (now (a .input)) (l .now-at) (l .packet) (l .i) (l .inv .0) (t .result .reader)
-    (t .last .1 .1 .0) (t .result .used) (t .ensures .goes) in
-    search needs
+part-turns-start : tie.Need-part-turns-start
+part-turns-start c = search needs
 
-loop-again : tie.Need-loop-again Inv-loop μ-loop
-loop-again c =
-    let a = c .before .before .before .before .before .before .before .before .before .before .before .args in
-    let l = c .before .before .before .before .before .before .before .before .loop in
-    let t = c .before .before .before .before .turn in (
-      went-on (a .r) (now (a .packet)) (now (a .input)) (l .now-at) (l .packet) (l .i) (l .inv .0) (t .result .reader)
-          (t .last .1 .1 .0) (t .result .used) (t .ensures .goes),
-      search needs,
-      search needs,
-    )
+part-turns-end : tie.Need-part-turns-end
+part-turns-end c = search needs
 
-same-length-2 : tie.Need-same-length-2 Inv-loop μ-loop
+turns-requires : tie.Need-turns-requires
+turns-requires c κs = search needs
+
+add-t15 : tie.Need-add-t15
+add-t15 c = search needs
+
+same-length-2 : tie.Need-same-length-2
 same-length-2 c = search needs
 
-returns-2 : tie.Need-returns-2 Inv-loop μ-loop
+returns-2 : tie.Need-returns-2
 returns-2 c =
-    let a = c .before .before .before .before .args in
-    let l = c .before .loop in
-    at-end (a .r) (now (a .packet)) (now (a .input)) (l .now-at) (l .packet) (l .i) (l .inv .0) (l .inv .2) (c .loop-test .left)
+    let st = c .before .before .before .before .before .before .before .before .before .before .before .before .before .before .before .before in
+    let a = st .args in
+    let t = c .before .before .before .before .before .before .before .before .before .before .before .before .start in
+    let u = c .before .before .before .before .turns in
+    let big : longestPacket ≤ length (u .last .1 .1 .0) = search needs in
+    read-rest (a .r) (now (a .packet)) (now (a .input)) (t .result .reader) (t .last .1 .1 .0) (t .result .used) (t .ensures)
+    (u .result .reader) (u .last .1 .1 .0) (u .result .used) (u .ensures) big
 
 pub run-spec : {M : Type 1} → statement M
 run-spec =
     tie.close
     (tie.spec
-    Inv-loop
-    μ-loop
-    loop-holds
-    sub-turn
-    part-turn-start
-    part-turn-end
-    turn-requires
+    start-requires
+    is-going-requires
     same-length
     returns
-    add-i
-    loop-less
-    loop-again
+    sub-turns
+    part-turns-start
+    part-turns-end
+    turns-requires
+    add-t15
     same-length-2
     returns-2)
