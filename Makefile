@@ -42,6 +42,7 @@ installed := \
 all: $(library) $(program) $(rust_programs)
 
 $(library): $(proved_sources)
+	tools/install
 	rt staticlib stewpigeon
 	touch $@
 
