@@ -161,19 +161,21 @@ fn turns(r: Reader, input: &[u8], packet: &mut [u8]) -> Done
     }
 }
 
-// How many bytes the whole time has with which the input begins.
-fn whole_time(input: &[u8]) -> usize
+// How many bytes the whole times have with which the input begins.
+fn whole_times(input: &[u8]) -> usize
     ensures { λ n. ⌜ Passes (now (input .entry)) n ⌝ }
 {
-    if Part::TIME < input.len() {
-        if input[0] == 4 {
-            return 1 + Part::TIME;
+    let mut n = 0;
+    while Part::TIME < input.len() - n {
+        if input[n] != 4 {
+            return n;
         }
+        n += 1 + Part::TIME;
     }
-    0
+    n
 }
 
-// At a kind byte: a packet that begins there, or behind a whole time, with its whole pieces.
+// At a kind byte: a packet that begins there, or behind whole times, with its whole pieces.
 fn next_packet(r: Reader, input: &[u8], packet: &mut [u8]) -> Done
     requires { ⌜ (r .part ≡ Part.Kind) × (sound r ≡ true) × (longestPacket ≤ length (now packet)) ⌝ }
     ensures { λ q. ⌜ Went r (now (packet .entry)) (now (input .entry)) (q .reader) (now (packet .exit)) (q .used) ⌝ }
@@ -182,7 +184,7 @@ fn next_packet(r: Reader, input: &[u8], packet: &mut [u8]) -> Done
         return Done { reader: r, used: 0 };
     }
     if r.opened {
-        let before = whole_time(input);
+        let before = whole_times(input);
         let rest = &input[before..];
         if 2 < rest.len() {
             if rest[0] == 2 {

@@ -8,8 +8,8 @@ use Rattle.records.proofs.steps.next_packet.Tie as tie
 returns : tie.Need-returns
 returns c = search needs
 
-whole-time-requires : tie.Need-whole-time-requires
-whole-time-requires c κs = search needs
+whole-times-requires : tie.Need-whole-times-requires
+whole-times-requires c κs = search needs
 
 sub-rest : tie.Need-sub-rest
 sub-rest c = search needs
@@ -36,7 +36,7 @@ returns-2 : tie.Need-returns-2
 returns-2 c =
     let st = c .before .before .before .before .before .before .before .before .before .before .before .before .before .before .before .before in
     let a = st .args in
-    let w = c .before .before .before .before .before .before .before .before .before .before .whole-time in
+    let w = c .before .before .before .before .before .before .before .before .before .before .whole-times in
     let t = c .before .before .before .before .begin-packet in
     went-on (a .r) (now (a .packet)) (now (a .input)) (a .r) (now (a .packet)) (w .result)
     (past (a .r) (now (a .packet)) (now (a .input)) (st .pre .0) (st .pre .1) (st .pre .2) (c .before .before .before .before .before .before .before .before .before .before .before .before .if1 .left) (w .result) (w .ensures))
@@ -56,7 +56,7 @@ next-packet-spec =
     tie.close
     (tie.spec
     returns
-    whole-time-requires
+    whole-times-requires
     sub-rest
     part-rest-start
     part-rest-end
