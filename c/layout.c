@@ -14,7 +14,9 @@ _Static_assert(sizeof(struct stewpigeon_block) == 24, "older block");
 _Static_assert(sizeof(struct stewpigeon_packet) == STEWPIGEON_PACKET_SIZE, "packet");
 _Static_assert(sizeof(struct stewpigeon_text_answer) == STEWPIGEON_TEXT_ANSWER_SIZE, "text answer");
 _Static_assert(STEWPIGEON_TEXTS == 800, "texts");
+_Static_assert(STEWPIGEON_LOG == 1000, "log");
 _Static_assert(offsetof(struct stewpigeon_sender, texts) == STEWPIGEON_SENDER_RECORD_SIZE, "nothing between them");
+_Static_assert(offsetof(struct stewpigeon_sender, log) == STEWPIGEON_SENDER_RECORD_SIZE + STEWPIGEON_TEXTS, "nor here");
 
 uint8_t fill;
 
@@ -33,6 +35,7 @@ int main(void)
     for (size_t i = 0; i < sizeof fills; i++) {
         fill = fills[i];
         layout_of_the_sender();
+        layout_of_the_rate();
         layout_of_the_receiver();
         layout_of_the_reader();
         marks();

@@ -44,10 +44,16 @@ GUARDED(guarded_sender, struct stewpigeon_sender);
 GUARDED(guarded_packet, struct stewpigeon_packet);
 GUARDED(guarded_text_answer, struct stewpigeon_text_answer);
 
-/* The texts apart from their record. */
+/* Texts and log apart from their record. */
 struct guarded_texts {
     uint8_t before[GUARD];
     uint8_t record[STEWPIGEON_TEXTS];
+    uint8_t after[GUARD];
+};
+
+struct guarded_log {
+    uint8_t before[GUARD];
+    uint64_t record[STEWPIGEON_LOG];
     uint8_t after[GUARD];
 };
 
@@ -64,6 +70,7 @@ struct guarded_texts {
 #define SAME(kept, guarded) (memcmp(&(kept), &(guarded), sizeof(guarded)) == 0)
 
 void layout_of_the_sender(void);
+void layout_of_the_rate(void);
 void layout_of_the_receiver(void);
 void layout_of_the_reader(void);
 

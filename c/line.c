@@ -52,7 +52,8 @@ int main(void)
     uint8_t packet[STEWPIGEON_LONGEST];
     unsigned sent = 0;
 
-    check(stewpigeon_sender_open(&sender, LEVEL, STEWPIGEON_BUFFERING_MS, T140, RED, 65530, 1000, 0x5eed), "opening the sender");
+    check(stewpigeon_sender_open(&sender, LEVEL, STEWPIGEON_BUFFERING_MS, STEWPIGEON_RATE, T140, RED, 65530, 1000, 0x5eed),
+          "opening the sender");
     check(stewpigeon_receiver_open(&receiver, T140, RED), "opening the receiver");
 
     for (uint64_t clock = 0; clock < (count + LEVEL + 1) * STEWPIGEON_BUFFERING_MS; clock += STEWPIGEON_BUFFERING_MS) {

@@ -6,9 +6,9 @@
  *
  * Records belong to the caller, who lends them for the time of a call. Any values of their fields get an answer; only
  * a record that the opening filled and nobody else wrote to does what a line should. In a flag 0 is false and all else
- * true. A refusal changes nothing: every byte that was lent stays, in records, texts and space. Only an opening writes
- * where it is refused: zeros. No pointer may be null, also where a length is 0, and what one call is lent must not
- * overlap. Calls on different records may run at once.
+ * true. A refusal changes nothing: every byte that was lent stays, in records, texts, log and space. Only an opening
+ * writes where it is refused: zeros. No pointer may be null, also where a length is 0, and what one call is lent must
+ * not overlap. Calls on different records may run at once.
  */
 #ifndef STEWPIGEON_H
 #define STEWPIGEON_H
@@ -18,7 +18,7 @@
 
 /* The version: all else that names it is made from this, or held to it. */
 #define STEWPIGEON_VERSION_MAJOR 0
-#define STEWPIGEON_VERSION_MINOR 1
+#define STEWPIGEON_VERSION_MINOR 2
 #define STEWPIGEON_VERSION_PATCH 0
 
 #ifdef __cplusplus
@@ -36,6 +36,7 @@ enum stewpigeon_refusal {
     STEWPIGEON_REFUSED_TEXT = 6,           /* the text is not UTF-8 */
     STEWPIGEON_REFUSED_NO_TEXT = 7,        /* the text is empty */
     STEWPIGEON_REFUSED_SPACE = 8,          /* the space is shorter than the packet that is due */
+    STEWPIGEON_REFUSED_RATE = 9,           /* rate 0 or above STEWPIGEON_HIGHEST_RATE */
     STEWPIGEON_REFUSED_SHORT = 10,         /* a packet under 12 bytes */
     STEWPIGEON_REFUSED_LONG = 11,          /* a packet over 1,472 bytes */
     STEWPIGEON_REFUSED_VERSION = 12,       /* the RTP version is not 2 */
@@ -52,6 +53,8 @@ enum stewpigeon_refusal {
 
 #define STEWPIGEON_LEVELS 4         /* the highest number of repeats */
 #define STEWPIGEON_BUFFERING_MS 300 /* the usual buffering time */
+#define STEWPIGEON_RATE 30          /* the usual rate, where a client states no "cps" (RFC 4103, section 6) */
+#define STEWPIGEON_HIGHEST_RATE 100 /* the highest rate */
 #define STEWPIGEON_ROOM 160         /* the bytes that a waiting room, and so a block, holds */
 #define STEWPIGEON_SHORTEST 12      /* the shortest packet that is read */
 #define STEWPIGEON_LONGEST 1472     /* and the longest; no packet that is written is longer */
@@ -85,11 +88,21 @@ struct stewpigeon_step {
 struct stewpigeon_settings {
     size_t level;       /* the number of repeats */
     uint64_t buffering; /* in ms */
+    size_t rate;        /* in characters (code points) per second */
     uint8_t t140;
     uint8_t red;
     uint16_t sequence;  /* of the first packet */
     uint32_t timestamp; /* at clock 0 */
     uint32_t source;
+};
+
+/*
+ * How far a sender has come in its log, of which it uses the first 10 * rate slots, in a circle. A `next` past the last
+ * of these counts as 0, and `used` up to their number.
+ */
+struct stewpigeon_pace {
+    size_t next; /* the slot of the next character */
+    size_t used; /* how many slots were used: those before it, the newest nearest */
 };
 
 struct stewpigeon_progress {
@@ -100,33 +113,37 @@ struct stewpigeon_progress {
 };
 
 /*
- * A sender without its texts. These lie in slots of STEWPIGEON_ROOM bytes, used in a circle: text waits in slot `room`,
- * and the last blocks sent lie in the slots before it, the newest nearest. A `room` past the last slot counts as 0, and
- * lengths and `count` up to what there is.
+ * A sender without its texts and its log. Texts lie in slots of STEWPIGEON_ROOM bytes, used in a circle: text waits in
+ * slot `room`, and the last blocks sent lie in the slots before it, the newest nearest. A `room` past the last slot
+ * counts as 0, and lengths, `characters` and `count` up to what there is.
  */
 struct stewpigeon_sender_record {
     struct stewpigeon_settings settings;
     uint64_t clock;                  /* the latest accepted */
     size_t room;                     /* the slot in which text waits, 0 to STEWPIGEON_LEVELS */
     size_t len;                      /* how many bytes wait there */
-    uint64_t since;                  /* when the first of them was offered */
+    size_t characters;               /* and how many characters they are */
+    uint64_t since;                  /* when the first of them was offered, or a packet left it behind */
     size_t lens[STEWPIGEON_LEVELS];  /* the lengths of the last blocks sent, newest first */
     uint64_t ats[STEWPIGEON_LEVELS]; /* and when each was sent */
     size_t count;                    /* how many of them there are */
+    struct stewpigeon_pace pace;
     struct stewpigeon_progress progress;
 };
 
-#define STEWPIGEON_SENDER_RECORD_SIZE 168
+#define STEWPIGEON_SENDER_RECORD_SIZE 200
 
 #define STEWPIGEON_TEXTS ((STEWPIGEON_LEVELS + 1) * STEWPIGEON_ROOM) /* the bytes of all slots: 800 */
+#define STEWPIGEON_LOG (10 * STEWPIGEON_HIGHEST_RATE)                /* the times in a log: 1,000 */
 
 /* A sender. */
 struct stewpigeon_sender {
     struct stewpigeon_sender_record record;
     uint8_t texts[STEWPIGEON_TEXTS];
+    uint64_t log[STEWPIGEON_LOG];
 };
 
-#define STEWPIGEON_SENDER_SIZE 968
+#define STEWPIGEON_SENDER_SIZE 9000
 
 /* Opens a receiver. Answers 0; or 3, and then the receiver is all zeros. */
 uint8_t stewpigeon_receiver_open(struct stewpigeon_receiver *receiver, uint8_t t140, uint8_t red);
@@ -146,26 +163,38 @@ uint8_t stewpigeon_receiver_step(struct stewpigeon_receiver *receiver, const uin
 size_t stewpigeon_write_marks(size_t count, uint8_t *space, size_t space_len);
 
 /*
- * The three calls of a sender, described below, on a record and on texts that lie elsewhere. An opening, also a refused
- * one, makes the texts all zeros, an accepted offer writes its text behind what waits, and nothing else writes to them.
+ * The three calls of a sender, described below, on a record, texts and a log that lie elsewhere.
+ *
+ * An opening, also a refused one, makes the texts all zeros, an accepted offer writes its text behind what waits, a
+ * packet that leaves text behind moves that to the next slot, and nothing else writes to them.
+ *
+ * The log holds when each of the last characters was sent. It may hold anything at the opening. Lend the same one, as
+ * the last call left it, with every clock call of this sender: a packet writes its clock to one slot for each character
+ * of new text, and leaves the others; quiet and refused calls leave all.
  */
 uint8_t stewpigeon_sender_open_in(struct stewpigeon_sender_record *record, uint8_t texts[STEWPIGEON_TEXTS],
-                                  size_t level, uint64_t buffering, uint8_t t140, uint8_t red, uint16_t sequence,
-                                  uint32_t timestamp, uint32_t source);
+                                  size_t level, uint64_t buffering, size_t rate, uint8_t t140, uint8_t red,
+                                  uint16_t sequence, uint32_t timestamp, uint32_t source);
 
 uint8_t stewpigeon_sender_offer_in(struct stewpigeon_sender_record *record, uint8_t texts[STEWPIGEON_TEXTS],
                                    uint64_t clock, const uint8_t *text, size_t text_len);
 
-int64_t stewpigeon_sender_clock_in(struct stewpigeon_sender_record *record, const uint8_t texts[STEWPIGEON_TEXTS],
-                                   uint64_t clock, uint8_t *space, size_t space_len);
+int64_t stewpigeon_sender_clock_in(struct stewpigeon_sender_record *record, uint8_t texts[STEWPIGEON_TEXTS],
+                                   uint64_t log[STEWPIGEON_LOG], uint64_t clock, uint8_t *space, size_t space_len);
 
-/* Opens a sender, at clock 0. Answers 0; or 1, 2 or 3, and then the sender is all zeros. */
+/*
+ * Opens a sender, at clock 0. Answers 0; or 1, 2, 3 or 9, and then the sender is all zeros, its texts and log too.
+ *
+ * Over any 10,000 ms, both ends included, its packets have at most 10 * rate characters of new text.
+ */
 static inline uint8_t stewpigeon_sender_open(struct stewpigeon_sender *sender, size_t level, uint64_t buffering,
-                                             uint8_t t140, uint8_t red, uint16_t sequence, uint32_t timestamp,
-                                             uint32_t source)
+                                             size_t rate, uint8_t t140, uint8_t red, uint16_t sequence,
+                                             uint32_t timestamp, uint32_t source)
 {
-    return stewpigeon_sender_open_in(&sender->record, sender->texts, level, buffering, t140, red, sequence, timestamp,
-                                     source);
+    for (size_t i = 0; i < STEWPIGEON_LOG; i++)
+        sender->log[i] = 0;
+    return stewpigeon_sender_open_in(&sender->record, sender->texts, level, buffering, rate, t140, red, sequence,
+                                     timestamp, source);
 }
 
 /* Offers text at a clock, in ms since the opening. Answers 0; else the refusal's number, and the sender stays. */
@@ -179,11 +208,13 @@ static inline uint8_t stewpigeon_sender_offer(struct stewpigeon_sender *sender, 
  * Tells the sender the clock. Answers the length of the packet, written to the front of the space, if one is due, and
  * `sent` is 1; 0 where none is, and then the sender keeps the clock and no more is written; or the refusal's number
  * below 0, and then sender and space stay. Bytes past the packet stay.
+ *
+ * A packet takes the text that waits, or as many of its first characters as the rate lets go. The rest waits on.
  */
 static inline int64_t stewpigeon_sender_clock(struct stewpigeon_sender *sender, uint64_t clock, uint8_t *space,
                                               size_t space_len)
 {
-    return stewpigeon_sender_clock_in(&sender->record, sender->texts, clock, space, space_len);
+    return stewpigeon_sender_clock_in(&sender->record, sender->texts, sender->log, clock, space, space_len);
 }
 
 /* An older block of a packet. */

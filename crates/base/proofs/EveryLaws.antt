@@ -9,6 +9,10 @@ module _ {A : Type 0} (P : A → Type 0) where
   every-append [] ys e f = f
   every-append (x ∷ xs) ys e f = (e .0, every-append xs ys (e .1) f)
 
+  pub every-behind : (xs ys : List A) → Every P (xs ++ ys) → Every P ys
+  every-behind [] ys e = e
+  every-behind (x ∷ xs) ys e = every-behind xs ys (e .1)
+
   pub every-take : (n : ℕ) (xs : List A) → Every P xs → Every P (take n xs)
   every-take zero xs e = tt
   every-take (suc n) [] e = tt

@@ -3,7 +3,7 @@ use mathlib.Core.Path.{_≡_, refl}
 use mathlib.Core.Bool.{not}
 use lib.Dec.{T as Holds}
 use Rattle.packet.specs.declared.Refusal.{Refusal}
-use Rattle.packet.specs.declared.Refusal.the-variants.{Level, Buffering, PayloadTypes, WaitingRoom, Clock, Text, NoText, Space, Short, Long, Version, Header, Padding, PayloadType, Source, BlockHeaders, BlockCount, BlockType, BlockLengths, BlockText}
+use Rattle.packet.specs.declared.Refusal.the-variants.{Level, Buffering, PayloadTypes, WaitingRoom, Clock, Text, NoText, Space, Rate, Short, Long, Version, Header, Padding, PayloadType, Source, BlockHeaders, BlockCount, BlockType, BlockLengths, BlockText}
 use Rattle.packet.specs.declared.Outcome.{Outcome}
 use Rattle.packet.specs.declared.Outcome.the-variants.{Accepted, Refused}
 use Rattle.packet.specs.declared.Packet.{Packet}
@@ -27,6 +27,7 @@ module _ (read before : Packet) where
   number-stays Text = refl
   number-stays NoText = refl
   number-stays Space = refl
+  number-stays Rate = refl
   number-stays Short = refl
   number-stays Long = refl
   number-stays Version = refl

@@ -39,7 +39,7 @@ all-from x (c ∷ cs) s e = go (senderAfter ours s c) (writes ours s c) (move s 
   where
     go : (s₁ : Sender) (ws : List Written) → Move s s₁ ws → (s₁ .settings ≡ x → Every (From x) (written ours s₁ cs)) → Every (From x) (ws ++ written ours s₁ cs)
     go s₁ ws still f = f e
-    go s₁ ws (moved s₂ l a b d) f = f (a ∙ e)
+    go s₁ ws (moved s₂ l a b m d) f = f (a ∙ e)
     go s₁ ws (sends t p l n u w) f = (ap (λ (y : Settings). y .source) e, f e)
 
 -- behind a packet from this source a receiver still admits it

@@ -117,7 +117,7 @@ clock-quiet s t p = go (clockOf s t p) (clock-shape s t p)
   where
     go : (r : ClockResult) → Clock s t p r → r .answer ≡ answers.quiet → OnlyClock s t (r .sender) × (r .lent ≡ p)
     go r (shapes.refused k) e = absurd (let z : _≡_ {A = ℕ} 0 1 = cc in omega arith)
-    go r (shapes.quiet a b) e = (record { clock = refl; settings = refl; waiting = refl; since = refl; kept = refl; progress = refl }, refl)
+    go r (shapes.quiet a b) e = (record { clock = refl; settings = refl; waiting = refl; characters = refl; since = refl; kept = refl; times = refl; progress = refl }, refl)
     go r (shapes.sent a b c d) e = absurd (let z : _≡_ {A = ℕ} 0 1 = cc in omega arith)
 
 pub demand-1 : Demand1 ours

@@ -33,13 +33,13 @@ use Rattle.packet_spec.proofs.BlocksLie.{lies, block-is}
 use Rattle.receiver_spec.proofs.Core.{accepts}
 use Rattle.sender_spec.proofs.Calls.{clock-sent}
 use Rattle.sender_spec.proofs.ChecksPassed.{open-passed, clock-passed}
-use Rattle.sender_spec.proofs.StaysSendable.{Good, fresh-good, offer-good, clock-good}
+use Rattle.sender_spec.proofs.StaysSendable.{Good, fresh-good, offer-good, clock-good, takes-front}
 use Rattle.sender_spec.proofs.ReadsBack.{reads-back}
 use Rattle.sender_spec.proofs.Shapes as shapes
 use Rattle.sender_spec.proofs.Shapes.{Offer, Clock, offer-shape, clock-shape}
 use Rattle.demands.proofs.FollowsLog.{Move, still, moved, sends, move}
 
-after-good : (s : Sender) (c : Call) → Good s → Good (senderAfter ours s c)
+pub after-good : (s : Sender) (c : Call) → Good s → Good (senderAfter ours s c)
 after-good s (offer t x) g = offer-good s t x g
 after-good s (clock t p) g = clock-good s t p g
 
@@ -73,20 +73,16 @@ good-back x (c ∷ cs) s e g = go (senderAfter ours s c) (writes ours s c) (move
     go : (s₁ : Sender) (ws : List Written) → Move s s₁ ws → (s₁ .settings ≡ x → Good s₁ → Every (ReadBack ours x) (written ours s₁ cs)) → Good s₁
         → Every (ReadBack ours x) (ws ++ written ours s₁ cs)
     go s₁ ws still f h = f e h
-    go s₁ ws (moved s₂ l a b d) f h = f (a ∙ e) h
+    go s₁ ws (moved s₂ l a b m d) f h = f (a ∙ e) h
     go s₁ ws (sends t p l n u w) f h = (back x s t e n g _ w refl, f e h)
-
--- what a packet takes and what it leaves is what waited
-takes-front : (s : Sender) (t : ℕ) → taken s t ++ left s t ≡ s .waiting
-takes-front s t = append-nil (s .waiting)
 
 abbrev primaries : List Written → List ℕ
 primaries ws = joined (map primarySent ws)
 
--- from any sender on: what left, and then what waits, is what waited and what was typed
-typed-from : (cs : List Call) (s : Sender) → primaries (written ours s cs) ++ finally ours s cs .waiting ≡ s .waiting ++ typed ours s cs
-typed-from [] s = sym (append-nil (s .waiting))
-typed-from (offer t x ∷ cs) s = go (offerOf s t x) (offer-shape s t x) (typed-from cs (offerOf s t x .sender))
+-- from any good sender on: what left, and then what waits, is what waited and what was typed
+typed-from : (cs : List Call) (s : Sender) → Good s → primaries (written ours s cs) ++ finally ours s cs .waiting ≡ s .waiting ++ typed ours s cs
+typed-from [] s g = sym (append-nil (s .waiting))
+typed-from (offer t x ∷ cs) s g = go (offerOf s t x) (offer-shape s t x) (typed-from cs (offerOf s t x .sender) (offer-good s t x g))
   where
     go : (r : CallResult) → Offer s t x r
         → primaries (written ours (r .sender) cs) ++ finally ours (r .sender) cs .waiting ≡ r .sender .waiting ++ typed ours (r .sender) cs
@@ -94,7 +90,7 @@ typed-from (offer t x ∷ cs) s = go (offerOf s t x) (offer-shape s t x) (typed-
     go r (shapes.refused (suc n) h) e = e
     go r (shapes.refused zero h) e = absurd (omega arith)
     go r (shapes.joined a b c d) e = e ∙ append-assoc (s .waiting) x (typed ours (senderWith s t x) cs)
-typed-from (clock t p ∷ cs) s = go (clockOf s t p) (clock-shape s t p) (typed-from cs (clockOf s t p .sender))
+typed-from (clock t p ∷ cs) s g = go (clockOf s t p) (clock-shape s t p) (typed-from cs (clockOf s t p .sender) (clock-good s t p g))
   where
     go : (r : ClockResult) → Clock s t p r
         → primaries (written ours (r .sender) cs) ++ finally ours (r .sender) cs .waiting ≡ r .sender .waiting ++ typed ours (r .sender) cs
@@ -107,7 +103,7 @@ typed-from (clock t p ∷ cs) s = go (clockOf s t p) (clock-shape s t p) (typed-
         append-assoc (taken s t) (primaries (written ours s₁ cs)) (finally ours s₁ cs .waiting)
         ∙ ap (λ (l : List ℕ). taken s t ++ l) e
         ∙ sym (append-assoc (taken s t) (left s t) (typed ours s₁ cs))
-        ∙ ap (λ (l : List ℕ). l ++ typed ours s₁ cs) (takes-front s t)
+        ∙ ap (λ (l : List ℕ). l ++ typed ours s₁ cs) (takes-front s t g)
 
 joins : (s : Sender) (t : ℕ) (x : List ℕ) → offerOf s t x .number ≡ 0 → offerOf s t x .sender ≡ senderWith s t x
 joins s t x = go (offerOf s t x) (offer-shape s t x)
@@ -133,5 +129,5 @@ demand-2 = record {
   read-back = λ x calls o.
       subst (λ (s : Sender). Every (ReadBack ours x) (written ours s calls)) (sym (open-passed x o .1)) (good-back x calls (freshSender x) refl (fresh-good x));
   as-typed = λ x calls o.
-      subst (λ (s : Sender). primaries (written ours s calls) ++ finally ours s calls .waiting ≡ typed ours s calls) (sym (open-passed x o .1)) (typed-from calls (freshSender x));
+      subst (λ (s : Sender). primaries (written ours s calls) ++ finally ours s calls .waiting ≡ typed ours s calls) (sym (open-passed x o .1)) (typed-from calls (freshSender x) (fresh-good x));
 }

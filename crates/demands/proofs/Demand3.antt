@@ -32,7 +32,7 @@ module _ (x : Settings) (calls : List Call) (o : sender.openSender x .number ≡
 
   -- a receiver with the sender's payload types opens
   opens : openReceiver (x .t140) (x .red) .number ≡ 0
-  opens = let t : typesBad (x .t140) (x .red) ≡ false = settings-good x (open-passed x o .0) .2 in rw t
+  opens = let t : typesBad (x .t140) (x .red) ≡ false = settings-good x (open-passed x o .0) .typed in rw t
 
   pub ours-keeps : KeepsRules (x .t140) (x .red) (rulesOf x (sentBy ours x calls) (leftBy ours x calls .clock)) (packetAt (sentBy ours x calls))
   ours-keeps =

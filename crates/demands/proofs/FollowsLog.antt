@@ -33,7 +33,8 @@ blockOf w = record { text = w .content .primary; at = w .time }
 -- what a call can do to a sender, as far as the log goes
 pub data Move (s : Sender) : Sender → List Written → Type 0 where
   still : Move s s []
-  moved : (s₁ : Sender) → s .clock ≤ s₁ .clock → s₁ .settings ≡ s .settings → s₁ .kept ≡ s .kept → s₁ .progress ≡ s .progress → Move s s₁ []
+  moved : (s₁ : Sender) → s .clock ≤ s₁ .clock → s₁ .settings ≡ s .settings → s₁ .kept ≡ s .kept → s₁ .times ≡ s .times → s₁ .progress ≡ s .progress
+      → Move s s₁ []
   sends : (t : ℕ) (p : List ℕ) → s .clock ≤ t → settingsNumber (s .settings) ≡ 0 → due s t ≡ true → take (length (packetBytes s t)) p ≡ packetBytes s t
       → Move s (afterPacket s t) (record { packet = take (length (packetBytes s t)) p; time = t; content = contentOf s t } ∷ [])
 
@@ -42,12 +43,12 @@ move s (offer t x) = go (offerOf s t x) (offer-shape s t x)
   where
     go : (r : CallResult) → Offer s t x r → Move s (r .sender) []
     go r (shapes.refused n h) = still
-    go r (shapes.joined a b c d) = moved (senderWith s t x) b refl refl refl
+    go r (shapes.joined a b c d) = moved (senderWith s t x) b refl refl refl refl
 move s (clock t p) = go (clockOf s t p) (clock-shape s t p)
   where
     go : (r : ClockResult) → Clock s t p r → Move s (r .sender) (writtenBy (r .answer) (r .lent) t (contentOf s t))
     go r (shapes.refused n) = still
-    go r (shapes.quiet a b) = moved _ a refl refl refl
+    go r (shapes.quiet a b) = moved _ a refl refl refl refl
     go r (shapes.sent a b c d) = sends t (over (packetBytes s t) p) b a c (take-append-seam (packetBytes s t) (drop (length (packetBytes s t)) p))
 
 -- the log from a sender on: the blocks of the packets written, then d
@@ -63,7 +64,7 @@ low (c ∷ cs) s d h k = go (senderAfter ours s c) (writes ours s c) (move s c) 
         → (finally ours s₁ cs .clock ≤ d .at → (k : ℕ) → s₁ .clock ≤ logFrom s₁ cs d k .at)
         → (k : ℕ) → s .clock ≤ getD (map blockOf (ws ++ written ours s₁ cs)) k d .at
     go s₁ ws still h f k = f h k
-    go s₁ ws (moved s₂ l a b e) h f k = le-trans l (f h k)
+    go s₁ ws (moved s₂ l a b m e) h f k = le-trans l (f h k)
     go s₁ ws (sends t p l x y z) h f zero = l
     go s₁ ws (sends t p l x y z) h f (suc k) = le-trans l (f h k)
 
@@ -76,7 +77,7 @@ rises (c ∷ cs) s d h k = go (senderAfter ours s c) (writes ours s c) (move s c
         → (finally ours s₁ cs .clock ≤ d .at → (k : ℕ) → logFrom s₁ cs d k .at ≤ logFrom s₁ cs d (suc k) .at)
         → (k : ℕ) → getD (map blockOf (ws ++ written ours s₁ cs)) k d .at ≤ getD (map blockOf (ws ++ written ours s₁ cs)) (suc k) d .at
     go s₁ ws still h lo f k = f h k
-    go s₁ ws (moved s₂ l a b e) h lo f k = f h k
+    go s₁ ws (moved s₂ l a b m e) h lo f k = f h k
     go s₁ ws (sends t p l x y z) h lo f zero = lo h 0
     go s₁ ws (sends t p l x y z) h lo f (suc k) = f h k
 
@@ -144,7 +145,7 @@ module _ (R : ℕ) (small : R ≤ level) (first : ℕ) (f : ℕ → SentBlock) (
           → ((i : ℕ) → f (n + i) ≡ getD (map blockOf (ws ++ written ours s₁ cs)) i d)
           → Packets n (ws ++ written ours s₁ cs)
       go s₁ ws still ih g = ih s n a g
-      go s₁ ws (moved s₂ l x y z) ih g =
+      go s₁ ws (moved s₂ l x y m z) ih g =
           ih s₂ n (record {
             level-is = ap (λ q. q .level) x ∙ a .level-is;
             next-is = ap (λ q. q .next) z ∙ a .next-is;

@@ -40,7 +40,7 @@ numberOf (refused n) = 1
 
 -- at this level; the first sequence number is 65,535
 abbrev pub settings : ℕ → Settings
-settings R = record { level = R; buffering = 300; t140 = 98; red = 100; sequence = 65535; timestamp = 0; source = 7 }
+settings R = record { level = R; buffering = 300; rate = 30; t140 = 98; red = 100; sequence = 65535; timestamp = 0; source = 7 }
 
 abbrev pub space : List ℕ
 space = replicate 100 0

@@ -24,7 +24,7 @@ use Rattle.demands.specs.Demand3.{Demand3}
 use Rattle.demands.proofs.ImpostorReceivers.{settings, space}
 
 -- our line with other offers and clock calls
-abbrev withSender : (Sender → ℕ → List ℕ → CallResult) → (Sender → ℕ → List ℕ → ClockResult) → Line
+abbrev pub withSender : (Sender → ℕ → List ℕ → CallResult) → (Sender → ℕ → List ℕ → ClockResult) → Line
 withSender offers clocks = record {
   text = ours .text;
   read = ours .read;
@@ -59,7 +59,7 @@ deletedBy s r (answers.refused n) = r
 deletedBy s r (answers.sent n) = r
 deletedBy s r answers.quiet = record {
   answer = answers.quiet;
-  sender = record { settings = s .settings; clock = r .sender .clock; waiting = []; since = 0; kept = s .kept; progress = s .progress };
+  sender = record { settings = s .settings; clock = r .sender .clock; waiting = []; characters = 0; since = 0; kept = s .kept; times = s .times; progress = s .progress };
   lent = r .lent;
 }
 
@@ -87,11 +87,20 @@ kept-twice-fails d = let z : _≡_ {A = ℕ} 2 1 = ap length (d .as-typed (setti
 
 -- a sender with other settings and kept blocks
 abbrev like : Sender → Settings → List SentBlock → Sender
-like s x kept = record { settings = x; clock = s .clock; waiting = s .waiting; since = s .since; kept = kept; progress = s .progress }
+like s x kept = record {
+  settings = x;
+  clock = s .clock;
+  waiting = s .waiting;
+  characters = s .characters;
+  since = s .since;
+  kept = kept;
+  times = s .times;
+  progress = s .progress;
+}
 
 -- repeats past the level: a sender of R 1 that writes as one of the highest level; packet 2 repeats `A` too
 abbrev deep : Settings → Settings
-deep x = record { level = level; buffering = x .buffering; t140 = x .t140; red = x .red; sequence = x .sequence; timestamp = x .timestamp; source = x .source }
+deep x = record { level = level; buffering = x .buffering; rate = x .rate; t140 = x .t140; red = x .red; sequence = x .sequence; timestamp = x .timestamp; source = x .source }
 
 abbrev backTo : Settings → ClockResult → ClockResult
 backTo x r = record { answer = r .answer; sender = like (r .sender) x (r .sender .kept); lent = r .lent }

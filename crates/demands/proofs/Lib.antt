@@ -6,7 +6,11 @@ pub mod Recorded
 pub mod OursKeeps
 pub mod Arrives
 pub mod Demand3
+pub mod RateTimes
+pub mod RateKept
+pub mod Rate
 pub mod LineTests
 pub mod ImpostorReceivers
 pub mod ImpostorSenders
+pub mod ImpostorRates
 pub mod Printed

@@ -40,14 +40,14 @@ spaced (c ∷ cs) s = go (senderAfter ours s c) (writes ours s c) (move s c) (sp
     go : (s₁ : Sender) (ws : List Written) → Move s s₁ ws → SpacedAfter (s₁ .progress .sent) (s₁ .progress .last) (s₁ .settings .buffering) (written ours s₁ cs)
         → SpacedAfter (s .progress .sent) (s .progress .last) (s .settings .buffering) (ws ++ written ours s₁ cs)
     go s₁ ws still f = f
-    go s₁ ws (moved s₂ l a b d) f =
+    go s₁ ws (moved s₂ l a b m d) f =
         subst (λ (x : Settings). SpacedAfter (s .progress .sent) (s .progress .last) (x .buffering) (written ours s₂ cs)) a
         (subst (λ (x : Progress). SpacedAfter (x .sent) (x .last) (s₂ .settings .buffering) (written ours s₂ cs)) d f)
     go s₁ ws (sends t p l n u w) f = (
       λ h.
           let b : s .settings .buffering ≤ t - s .progress .last =
           leb-true (s .settings .buffering) (t - s .progress .last) (passed (s .progress .sent) (leb (s .settings .buffering) (t - s .progress .last)) _ u h) in
-          let g : 1 ≤ s .settings .buffering = settings-good (s .settings) n .1 .0 in
+          let g : 1 ≤ s .settings .buffering = settings-good (s .settings) n .buffered .0 in
           omega arith,
       f,
     )
@@ -92,10 +92,10 @@ module _ (x : Settings) (calls : List Call) (good : settingsNumber x ≡ 0) wher
   log-rises = rises calls (freshSender x) beyond (le-refl (beyond .at))
 
   pub small : x .level ≤ level
-  small = settings-good x good .0
+  small = settings-good x good .few
 
   types : typesBad (x .t140) (x .red) ≡ false
-  types = settings-good x good .2
+  types = settings-good x good .typed
 
   abbrev ours-rules : Rules
   ours-rules = rules (x .level) small (x .sequence) log log-rises

@@ -25,8 +25,10 @@ pub record OnlyClock (s : Sender) (t : ℕ) (s' : Sender) : Type 0 where
   pub clock : s' .clock ≡ t
   pub settings : s' .settings ≡ s .settings
   pub waiting : s' .waiting ≡ s .waiting
+  pub characters : s' .characters ≡ s .characters
   pub since : s' .since ≡ s .since
   pub kept : s' .kept ≡ s .kept
+  pub times : s' .times ≡ s .times
   pub progress : s' .progress ≡ s .progress
 
 pub record Demand1 (l : Line) : Type 0 where

@@ -112,10 +112,10 @@ two = 0xE2 ∷ 0x09 ∷ 0x60 ∷ 0x01 ∷ 0xE2 ∷ 0x04 ∷ 0xB0 ∷ 0x01 ∷ 0x
 abbrev pub one : List ℕ
 one = 0xE2 ∷ 0x04 ∷ 0xB0 ∷ 0x01 ∷ 0x62 ∷ 0x41 ∷ []
 
--- a sender of this level just opened, time 300; with `A` waiting, offered at 0; and with nothing waiting, `A` at 0 being the
+-- a sender of this level just opened, time 300, rate 30; with `A` waiting, offered at 0; and with nothing waiting, `A` at 0 being the
 -- last text sent: its latest clock, the blocks kept, when the last packet left, the next sequence number
 abbrev pub settings : ℕ → Settings
-settings R = record { level = R; buffering = 300; t140 = 98; red = 100; sequence = 65535; timestamp = 1000; source = 7 }
+settings R = record { level = R; buffering = 300; rate = 30; t140 = 98; red = 100; sequence = 65535; timestamp = 1000; source = 7 }
 
 abbrev pub opened : ℕ → Sender
 opened R = openSender (settings R) .sender
@@ -125,8 +125,10 @@ waitingA R = record {
   settings = settings R;
   clock = 0;
   waiting = A;
+  characters = 1;
   since = 0;
   kept = [];
+  times = [];
   progress = record { sent = false; last = 0; lastText = 0; next = 65535 };
 }
 
@@ -135,8 +137,10 @@ idle R t kept last next = record {
   settings = settings R;
   clock = t;
   waiting = [];
+  characters = 0;
   since = 0;
   kept = kept;
+  times = 0 ∷ [];
   progress = record { sent = true; last = last; lastText = 0; next = next };
 }
 

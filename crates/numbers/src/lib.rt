@@ -1,7 +1,7 @@
-// Small numbers: the lesser of two, the byte of a flag, bytes as wider numbers, and the numbers that bytes make, the highest
+// Small numbers: the lesser of two, the time between two, the byte of a flag, bytes as wider numbers, and the numbers that bytes make, the highest
 // first.
 ghost use mathlib.Core.Path.{_≡_};
-ghost use Prim.Native.Nat.{_+_, _*_, _<_, min};
+ghost use Prim.Native.Nat.{_+_, _-_, _*_, _<_, min};
 ghost use Rattle.base.specs.Flags.{bit};
 
 pub fn least(a: usize, b: usize) -> usize
@@ -11,6 +11,16 @@ pub fn least(a: usize, b: usize) -> usize
         return a;
     }
     b
+}
+
+// The time since `from`, 0 where that is later.
+pub fn passed(clock: u64, from: u64) -> u64
+    ensures { λ r. ⌜ r ≡ clock - from ⌝ }
+{
+    if clock < from {
+        return 0;
+    }
+    clock - from
 }
 
 pub fn byte_of(set: bool) -> u8

@@ -8,7 +8,7 @@ use Rattle.packet.specs.declared.Outcome.{Outcome}
 use Rattle.packet.specs.declared.Outcome.the-variants.{Accepted, Refused}
 use Rattle.packet.specs.declared.Reading.{Reading}
 use Rattle.packet.specs.declared.Refusal.{Refusal}
-use Rattle.packet.specs.declared.Refusal.the-variants.{Level, Buffering, PayloadTypes, WaitingRoom, Clock, Text, NoText, Space, Short, Long, Version, Header, Padding, PayloadType, Source, BlockHeaders, BlockCount, BlockType, BlockLengths, BlockText}
+use Rattle.packet.specs.declared.Refusal.the-variants.{Level, Buffering, PayloadTypes, WaitingRoom, Clock, Text, NoText, Space, Rate, Short, Long, Version, Header, Padding, PayloadType, Source, BlockHeaders, BlockCount, BlockType, BlockLengths, BlockText}
 use Rattle.packet.specs.Refusal.{number, outcomeNumber}
 use Rattle.packet.specs.Places.{numbered}
 
@@ -23,6 +23,7 @@ named n =
     (cond (eqb n 6) Text
     (cond (eqb n 7) NoText
     (cond (eqb n 8) Space
+    (cond (eqb n 9) Rate
     (cond (eqb n 10) Short
     (cond (eqb n 11) Long
     (cond (eqb n 12) Version
@@ -34,7 +35,7 @@ named n =
     (cond (eqb n 18) BlockCount
     (cond (eqb n 19) BlockType
     (cond (eqb n 20) BlockLengths
-    BlockText))))))))))))))))))
+    BlockText)))))))))))))))))))
 
 named-number : (r : Refusal) → named (number r) ≡ r
 named-number Level = refl
@@ -45,6 +46,7 @@ named-number Clock = refl
 named-number Text = refl
 named-number NoText = refl
 named-number Space = refl
+named-number Rate = refl
 named-number Short = refl
 named-number Long = refl
 named-number Version = refl
@@ -67,6 +69,7 @@ number-positive Clock = omega arith
 number-positive Text = omega arith
 number-positive NoText = omega arith
 number-positive Space = omega arith
+number-positive Rate = omega arith
 number-positive Short = omega arith
 number-positive Long = omega arith
 number-positive Version = omega arith

@@ -1,8 +1,8 @@
--- 01's "Refusal numbers": the number of each refusal.
+-- The number of each refusal: 01's "Refusal numbers", and 02's 9.
 use Prim.Native.Nat.{ℕ}
 use mathlib.Core.Bool.{Bool, true, false}
 use Rattle.packet.specs.declared.Refusal.{Refusal}
-use Rattle.packet.specs.declared.Refusal.the-variants.{Level, Buffering, PayloadTypes, WaitingRoom, Clock, Text, NoText, Space, Short, Long, Version, Header, Padding, PayloadType, Source, BlockHeaders, BlockCount, BlockType, BlockLengths, BlockText}
+use Rattle.packet.specs.declared.Refusal.the-variants.{Level, Buffering, PayloadTypes, WaitingRoom, Clock, Text, NoText, Space, Rate, Short, Long, Version, Header, Padding, PayloadType, Source, BlockHeaders, BlockCount, BlockType, BlockLengths, BlockText}
 use Rattle.packet.specs.declared.Outcome.{Outcome}
 use Rattle.packet.specs.declared.Outcome.the-variants.{Accepted, Refused}
 
@@ -15,6 +15,7 @@ number Clock = 5
 number Text = 6
 number NoText = 7
 number Space = 8
+number Rate = 9
 number Short = 10
 number Long = 11
 number Version = 12

@@ -6,7 +6,7 @@ ghost use Rattle.packet_spec.specs.Limits.{level};
 ghost use Rattle.packet.specs.Refusal.{number, isRefused};
 ghost use Rattle.packet.specs.Places.{numbered, refusedAnswer, none, startOf, blockOf};
 
-// The refusals of 01, in the order of its table.
+// The refusals of 01 and 02, in the order of their numbers.
 pub enum Refusal {
     Level,
     Buffering,
@@ -16,6 +16,7 @@ pub enum Refusal {
     Text,
     NoText,
     Space,
+    Rate,
     Short,
     Long,
     Version,
@@ -31,7 +32,7 @@ pub enum Refusal {
 }
 
 impl Refusal {
-    // 01's number.
+    // Its number.
     pub fn number(self) -> u8
         ensures { λ r. ⌜ r ≡ number self ⌝ }
     {
@@ -44,6 +45,7 @@ impl Refusal {
             Refusal::Text => 6,
             Refusal::NoText => 7,
             Refusal::Space => 8,
+            Refusal::Rate => 9,
             Refusal::Short => 10,
             Refusal::Long => 11,
             Refusal::Version => 12,

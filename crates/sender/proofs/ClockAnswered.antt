@@ -1,6 +1,6 @@
 -- The clock call's answer, by its judgement and by what became of the draft.
-use Prim.Native.Nat.{ℕ}
-use mathlib.Core.Path.{_≡_, _∙_, refl, ap, sym}
+use Prim.Native.Nat.{ℕ, _-_, min}
+use mathlib.Core.Path.{_≡_, _∙_, refl, ap, sym, subst}
 use mathlib.Core.List.{List}
 use mathlib.Core.Bool.{Bool, true, false, cond, not, _||_, _&&_}
 use lib.Dec.{ltb, eqb, T as Holds}
@@ -10,14 +10,17 @@ use borrow.Author.Tests.{eqb-true}
 use Rattle.sender.specs.declared.Sender.{Sender}
 use Rattle.writer.specs.declared.Answer.{Answer}
 use Rattle.writer.specs.declared.Answer.the-variants.{Refused, Quiet, Sent}
+use Rattle.text_spec.specs.Front.{front}
 use Rattle.base.specs.Arrays.{over}
-use Rattle.base.specs.Flags.{isSet}
 use Rattle.base.specs.Checks.{checked}
 use Rattle.sender_spec.specs.State as State
 use Rattle.sender_spec.specs.State.{hasText}
 use Rattle.sender_spec.specs.Settings.{settingsNumber}
 use Rattle.sender_spec.specs.Answers.{ClockAnswer, refused, quiet, sent, ClockResult}
-use Rattle.sender_spec.specs.Packets.{carried, anyText, readyAt, packetBytes, afterPacket}
+use Rattle.sender_spec.specs.Limits.{roomSize}
+use Rattle.sender_spec.specs.Rate as Rate
+use Rattle.sender_spec.specs.Packets.{going, taken, carried, anyText, readyAt, packetBytes, afterPacket}
+use Rattle.sender_spec.proofs.SettingsPass.{Passed, settings-good}
 use Rattle.sender_spec.specs.Calls.{clockOf, clockSent, clockQuiet, senderAt, clockRefused, spaceChecks}
 use Rattle.settings.specs.declared.Judged.{Judged}
 use Rattle.settings.specs.declared.Judged.the-variants as Judgements
@@ -25,16 +28,21 @@ use Rattle.settings.specs.Judging as Judging
 use Rattle.settings.specs.Judging.{Judgement, refuses, judged, isEarly, isReady, judgementOf}
 use Rattle.slots.specs.Slots.{textsSize}
 use Rattle.writer.specs.Draft as Draft
-use Rattle.writer.specs.Draft.{clockAnswer, putOf}
+use Rattle.rate.specs.Circle.{slotsOf, logSize}
+use Rattle.rate.proofs.Circle.{slots-limit}
+use Rattle.slots.proofs.Slots.{waiting-length}
+use Rattle.settings.specs.State.{settingsOf}
+use Rattle.writer.specs.Draft.{draftPacket, clockAnswer, isSent, putOf}
 use Rattle.sender.specs.State.{stateOf}
-use Rattle.sender.specs.Clocking.{judgementAt, refusedBy, markerDue, draftOf, recordAt, recordBehind, Clocks}
+use Rattle.sender.specs.Clocking.{judgementAt, refusedBy, isFirst, markerDue, takenBytes, draftOf, recordAt, recordBehind, textsBehind, logBehind, Clocks}
+use Rattle.sender.proofs.Taken.{taken-lies}
 use Rattle.sender.proofs.AfterClockCall.{after-is}
 use Rattle.sender.proofs.Drafted.{packet-is}
 
 -- 01's result goes by the judgement
 module _ (s : State.Sender) (t : ℕ) (p : List ℕ) where
   abbrev hasSome : Bool
-  hasSome = hasText (s .waiting) || anyText (carried s t)
+  hasSome = hasText (taken s t) || anyText (carried s t)
 
   abbrev pub resultBy : Judgement → ClockResult
   resultBy (refuses n) = clockRefused s p n
@@ -72,49 +80,66 @@ ready-is s t (Judgements.Refused r) h e = absurd h
 ready-is s t Judgements.Early h e = absurd h
 ready-is s t Judgements.Ready h e = e
 
--- M is 1 on the first packet
-pub first-marked : (s : Sender) → Holds (not (isSet (s .progress .sent))) → true ≡ markerDue s
-first-marked s h = go (not (isSet (s .progress .sent))) _ h
-  where
-    go : (b c : Bool) → Holds b → true ≡ (b || c)
-    go true c h = refl
-    go false c h = absurd h
+module _ (s : Sender) where
+  pub first-is : Holds (isFirst s) → true ≡ isFirst s
+  first-is h = go (isFirst s) h
+    where
+      go : (b : Bool) → Holds b → true ≡ b
+      go true h = refl
+      go false h = absurd h
+
+  pub later-is : Holds (not (isFirst s)) → false ≡ isFirst s
+  later-is h = go (isFirst s) h
+    where
+      go : (b : Bool) → Holds (not b) → false ≡ b
+      go true h = absurd h
+      go false h = refl
 
 abbrev senderFor : ClockAnswer → State.Sender → ℕ → State.Sender
 senderFor (refused n) s t = s
 senderFor quiet s t = senderAt s t
 senderFor (sent n) s t = afterPacket s t
 
-module _ (s : Sender) (texts : List ℕ) (t : ℕ) (p : List ℕ) where
+module _ (s : Sender) (texts log : List ℕ) (t : ℕ) (p : List ℕ) where
   abbrev state : State.Sender
-  state = stateOf s texts
+  state = stateOf s texts log
+
+  abbrev n : ℕ
+  n = length (taken state t)
+
+  abbrev k : ℕ
+  k = going state t
 
   -- a call that comes too early for a packet
-  pub early-is : (j : Judged) → Holds (isEarly j) → judged j ≡ judgementAt s t → Clocks s texts t p Quiet (recordAt s t) p
+  pub early-is : (j : Judged) → Holds (isEarly j) → judged j ≡ judgementAt s t → Clocks s texts log t p Quiet (recordAt s t) texts log p
   early-is (Judgements.Refused r) h e = absurd h
-  early-is Judgements.Early h e = record { result = ap (resultBy state t p) e ∙ sym (by-judgement state t p); fields = refl }
+  early-is Judgements.Early h e = record { result = ap (resultBy state t p) e ∙ sym (by-judgement state t p); fields = refl; bytes = refl; times = refl }
   early-is Judgements.Ready h e = absurd h
 
   -- one that is neither ready nor early
-  pub refused-is : (j : Judged) → Holds (not (isReady j)) → Holds (not (isEarly j)) → judged j ≡ judgementAt s t → Clocks s texts t p (refusedBy j) s p
-  refused-is (Judgements.Refused r) h k e = record { result = ap (resultBy state t p) e ∙ sym (by-judgement state t p); fields = refl }
+  pub refused-is : (j : Judged) → Holds (not (isReady j)) → Holds (not (isEarly j)) → judged j ≡ judgementAt s t → Clocks s texts log t p (refusedBy j) s texts log p
+  refused-is (Judgements.Refused r) h k e = record { result = ap (resultBy state t p) e ∙ sym (by-judgement state t p); fields = refl; bytes = refl; times = refl }
   refused-is Judgements.Early h k e = absurd k
   refused-is Judgements.Ready h k e = absurd h
 
   abbrev turned : Draft.Result → ClockResult
   turned r = record { answer = r .answer; sender = senderFor (r .answer) state t; lent = r .lent }
 
-  module _ (size : length texts ≡ textsSize) (ready : Judging.ready ≡ judgementOf (state .settings) (state .clock) (state .progress) t) where
-    turned-is : turned (putOf (draftOf s t (markerDue s)) texts p) ≡ clockOf state t p
+  module _ (size : length texts ≡ textsSize) (ready : Judging.ready ≡ judgementAt s t) where
+    passed : Passed (settingsOf (s .settings))
+    passed = settings-good (state .settings) (ready-passed state t p ready)
+
+    turned-is : turned (putOf (draftOf s t (markerDue s n) n) texts p) ≡ clockOf state t p
     unfolding putOf
     turned-is =
-        ap (λ (q : List ℕ). turned
-        (cond some (cond (ltb (length p) (length q)) (record { answer = refused 8; lent = p }) (record { answer = sent (length q); lent = over q p }))
-        (record { answer = quiet; lent = p }))) (packet-is s texts t size (ready-passed state t p ready))
-        ∙ go some (ltb (length p) (length (packetBytes state t))) ∙ sym (by-judgement state t p ∙ ap (resultBy state t p) (sym ready))
+        (λ i. turned
+        (cond (hasText (taken-lies s texts log t size i) || anyText (carried state t))
+        (cond (ltb (length p) (length (bytes i))) (record { answer = refused 8; lent = p }) (record { answer = sent (length (bytes i)); lent = over (bytes i) p }))
+        (record { answer = quiet; lent = p })))
+        ∙ go (hasSome state t p) (ltb (length p) (length (packetBytes state t))) ∙ sym (by-judgement state t p ∙ ap (resultBy state t p) (sym ready))
       where
-        some : Bool
-        some = hasSome state t p
+        bytes : draftPacket (draftOf s t (markerDue s n) n) texts ≡ packetBytes state t
+        bytes = packet-is s texts log t size (ready-passed state t p ready)
 
         go : (b c : Bool)
             → turned
@@ -125,10 +150,43 @@ module _ (s : Sender) (texts : List ℕ) (t : ℕ) (p : List ℕ) where
         go true false = refl
         go false c = refl
 
-    pub answered-is : (r : Answer) (p' : List ℕ) → record { answer = clockAnswer r; lent = p' } ≡ putOf (draftOf s t (markerDue s)) texts p → Clocks s texts t p r (recordBehind r s t) p'
-    answered-is r p' e = record { result = behind r ∙ ap turned e ∙ turned-is; fields = refl }
+    -- what a draft of what 01 takes comes to; where it is sent, so many times are lent
+    answered-is : (r : Answer) (p' : List ℕ) → (Holds (isSent r) → length log ≡ logSize) → record { answer = clockAnswer r; lent = p' } ≡ putOf (draftOf s t (markerDue s n) n) texts p
+        → Clocks s texts log t p r (recordBehind r s t n k) (textsBehind r s texts n) (logBehind r s log t k) p'
+    answered-is r p' long e = record { result = behind r long ∙ ap turned e ∙ turned-is; fields = refl; bytes = refl; times = refl }
       where
-        behind : (r : Answer) → record { answer = clockAnswer r; sender = stateOf (recordBehind r s t) texts; lent = p' } ≡ turned (record { answer = clockAnswer r; lent = p' })
-        behind (Refused q) = refl
-        behind Quiet = refl
-        behind (Sent n) = ap (λ (x : State.Sender). record { answer = sent n; sender = x; lent = p' }) (after-is s texts t size)
+        behind : (r : Answer) → (Holds (isSent r) → length log ≡ logSize)
+            → record { answer = clockAnswer r; sender = stateOf (recordBehind r s t n k) (textsBehind r s texts n) (logBehind r s log t k); lent = p' } ≡ turned (record { answer = clockAnswer r; lent = p' })
+        behind (Refused q) long = refl
+        behind Quiet long = refl
+        behind (Sent l) long = ap (λ (x : State.Sender). record { answer = sent l; sender = x; lent = p' }) (after-is s texts log t size (long tt) passed)
+
+    -- the same of a draft by what the code counts: c characters wait, of which g may go, in m bytes
+    module _ (c g m : ℕ) (first marked : Bool) (counted : c ≡ min (s .waiting .characters) roomSize) (allowed : g ≡ Rate.allowed (slotsOf (s .settings .rate)) (state .times) t c) (taken : m ≡ takenBytes texts (s .waiting) c g) (began : first ≡ isFirst s) (marks : marked ≡ (first || markerDue s m)) where
+      going-is : g ≡ k
+      going-is = allowed ∙ (λ i. Rate.allowed (slots-limit (s .settings .rate) (passed .rated .1) i) (state .times) t (counted i))
+
+      taken-is : m ≡ n
+      taken-is =
+          taken ∙ (λ i. takenBytes texts (s .waiting) (counted i) (going-is i))
+          ∙ go (eqb k (state .characters))
+        where
+          go : (b : Bool) → cond b (min (s .waiting .len) roomSize) (length (front k (state .waiting))) ≡ length (cond b (state .waiting) (front k (state .waiting)))
+          go true = sym (waiting-length texts size (s .waiting .room) (s .waiting .len))
+          go false = refl
+
+      marker-is : marked ≡ markerDue s m
+      marker-is = marks ∙ ap (_|| markerDue s m) began ∙ go (isFirst s) (ltb 0 m && ltb (s .settings .buffering) (s .waiting .since - s .progress .«last_text»))
+        where
+          go : (a b : Bool) → (a || (a || b)) ≡ (a || b)
+          go true b = refl
+          go false b = refl
+
+      pub put-is : (r : Answer) (texts' log' p' : List ℕ) → (Holds (isSent r) → length log ≡ logSize) → record { answer = clockAnswer r; lent = p' } ≡ putOf (draftOf s t marked m) texts p
+          → texts' ≡ textsBehind r s texts m → log' ≡ logBehind r s log t g → Clocks s texts log t p r (recordBehind r s t m g) texts' log' p'
+      put-is r texts' log' p' long e same there =
+          subst (λ (l : List ℕ). Clocks s texts log t p r (recordBehind r s t m g) texts' l p') (sym there)
+          (subst (λ (l : List ℕ). Clocks s texts log t p r (recordBehind r s t m g) l (logBehind r s log t g) p') (sym same)
+          (subst (λ (i : ℕ). Clocks s texts log t p r (recordBehind r s t m i) (textsBehind r s texts m) (logBehind r s log t i) p') (sym going-is)
+          (subst (λ (i : ℕ). Clocks s texts log t p r (recordBehind r s t i k) (textsBehind r s texts i) (logBehind r s log t k) p') (sym taken-is)
+          (answered-is r p' long (e ∙ (λ i. putOf (draftOf s t (marker-is i) m) texts p) ∙ ap (λ (i : ℕ). putOf (draftOf s t (markerDue s i) i) texts p) taken-is)))))

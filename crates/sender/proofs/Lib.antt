@@ -1,4 +1,5 @@
 pub mod Ring
+pub mod Taken
 pub mod AfterClockCall
 pub mod Joined
 pub mod Drafted

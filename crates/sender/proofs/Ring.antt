@@ -7,9 +7,10 @@ use native.Mathlib.Numerals.{add-one}
 use lib.ListN.{length, take, length-take}
 use Rattle.packet_spec.specs.Limits.{level}
 use Rattle.sender_spec.specs.State.{SentBlock}
-use Rattle.slots.specs.Slots.{slots, slotOf, slotText, waitingIn}
+use Rattle.slots.specs.Slots.{slots, textsSize, slotOf, onward, slotText, waitingIn, restKept}
 use Rattle.writer.specs.Draft.{blocksFrom, keptIn}
-use Rattle.slots.proofs.Slots.{onward, slot-on, slot-newest}
+use Rattle.slots.proofs.Slots.{slot-on, slot-newest}
+use Rattle.slots.proofs.Rest.{rest-back}
 use Rattle.writer.proofs.KeptBlocks.{take-least}
 
 module _ (texts : List ℕ) (room : ℕ) where
@@ -27,8 +28,18 @@ module _ (texts : List ℕ) (room : ℕ) where
   blocks-take (suc k) back (n ∷ lens) [] = refl
   blocks-take (suc k) back (n ∷ lens) (t ∷ ats) = ap (λ (l : List SentBlock). record { text = slotText texts (slotOf room back) n; at = t } ∷ l) (blocks-take k (suc back) lens ats)
 
--- the circle: behind a packet what waited is block 0, and each block kept is one further back, in its slot; the oldest goes
-pub kept-on : (texts : List ℕ) (room len t count : ℕ) (lens ats : List ℕ)
+  -- what is left of what waited is written to none of their slots
+  blocks-stay : (len taken : ℕ) → length texts ≡ textsSize → (back : ℕ) (lens ats : List ℕ) → 1 ≤ back → back + length lens ≤ slots
+      → blocksFrom (restKept room len taken texts) (onward room) back lens ats ≡ blocksFrom texts (onward room) back lens ats
+  blocks-stay len taken size back [] ats h k = refl
+  blocks-stay len taken size back (n ∷ lens) [] h k = refl
+  blocks-stay len taken size back (n ∷ lens) (t ∷ ats) h k =
+      let e = rest-back room len taken texts size back n h (omega arith) in
+      let f = blocks-stay len taken size (suc back) lens ats (omega arith) (omega arith) in
+      λ i. record { text = e i; at = t } ∷ f i
+
+-- the circle: behind a packet what it took is block 0, and each block kept is one further back, in its slot; the oldest goes
+kept-on : (texts : List ℕ) (room len t count : ℕ) (lens ats : List ℕ)
     → keptIn texts (onward room) (take level (len ∷ lens)) (take level (t ∷ ats)) (min count (level - 1) + 1)
     ≡ take level (record { text = waitingIn texts room len; at = t } ∷ keptIn texts room lens ats count)
 kept-on texts room len t count lens ats =
@@ -43,3 +54,11 @@ kept-on texts room len t count lens ats =
     let suc-count : min count k + 1 ≡ suc (min count k) = add-one (min count k) in
     (λ i. take (suc-count i) (record { text = slotText texts (slot i) len; at = t } ∷ moved i))
     ∙ ap (λ (l : List SentBlock). record { text = waitingIn texts room len; at = t } ∷ l) rest
+
+-- and what is left of what waited lies in the slot of the oldest
+pub kept-behind : (texts : List ℕ) (room len taken t count : ℕ) (lens ats : List ℕ) → length texts ≡ textsSize
+    → keptIn (restKept room len taken texts) (onward room) (take level (taken ∷ lens)) (take level (t ∷ ats)) (min count (level - 1) + 1)
+    ≡ take level (record { text = waitingIn texts room taken; at = t } ∷ keptIn texts room lens ats count)
+kept-behind texts room len taken t count lens ats size =
+    ap (take (min count (level - 1) + 1)) (blocks-stay texts room len taken size 1 (take level (taken ∷ lens)) (take level (t ∷ ats)) (omega arith) (omega (arith, length-take level (taken ∷ lens))))
+    ∙ kept-on texts room taken t count lens ats

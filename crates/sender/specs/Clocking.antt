@@ -1,18 +1,24 @@
 -- What the clock call answers.
-use Prim.Native.Nat.{ℕ, _+_, _-_, _%_}
+use Prim.Native.Nat.{ℕ, _+_, _-_, _%_, min}
 use mathlib.Core.Path.{_≡_}
 use mathlib.Core.List.{List}
-use mathlib.Core.Bool.{Bool, not, _||_, _&&_}
-use lib.Dec.{ltb}
+use mathlib.Core.Bool.{Bool, cond, not, _||_, _&&_}
+use lib.Dec.{ltb, eqb}
 use lib.ListN.{length}
 use Rattle.base.specs.Flags.{isSet}
 use Rattle.sender.specs.declared.Sender.{Sender}
+use Rattle.text_spec.specs.Front.{front}
+use Rattle.sender_spec.specs.Limits.{roomSize}
+use Rattle.sender_spec.specs.Packets.{going, taken}
 use Rattle.sender_spec.specs.Calls.{clockOf}
 use Rattle.writer.specs.declared.Draft.{Draft}
 use Rattle.writer.specs.declared.Answer.{Answer}
 use Rattle.writer.specs.declared.Answer.the-variants.{Refused, Quiet, Sent}
 use Rattle.writer.specs.Draft.{clockAnswer, answerBy}
-use Rattle.slots.specs.Held.{emptiedOf, keptWith}
+use Rattle.slots.specs.declared.Waiting.{Waiting}
+use Rattle.slots.specs.Slots.{waitingIn, restKept}
+use Rattle.slots.specs.Held.{leftOf, keptWith}
+use Rattle.rate.specs.Circle.{slotsOf, spentIn, paceAfter}
 use Rattle.settings.specs.State.{settingsOf, progressOf, progressBehind}
 use Rattle.settings.specs.declared.Judged.{Judged}
 use Rattle.settings.specs.declared.Judged.the-variants as Judgements
@@ -29,14 +35,21 @@ refusedBy (Judgements.Refused r) = Refused r
 refusedBy Judgements.Early = Quiet
 refusedBy Judgements.Ready = Quiet
 
--- M of the next packet
-abbrev pub markerDue : Sender → Bool
-markerDue s =
-    not (isSet (s .progress .sent)) || (ltb 0 (s .waiting .len) && ltb (s .settings .buffering) (s .waiting .since - s .progress .«last_text»))
+-- no packet was sent yet
+abbrev pub isFirst : Sender → Bool
+isFirst s = not (isSet (s .progress .sent))
 
--- what the packet at clock t is written from, with this M
-abbrev pub draftOf : Sender → ℕ → Bool → Draft
-draftOf s t m = record {
+-- M of a packet that takes so many bytes of what waits
+abbrev pub markerDue : Sender → ℕ → Bool
+markerDue s n = isFirst s || (ltb 0 n && ltb (s .settings .buffering) (s .waiting .since - s .progress .«last_text»))
+
+-- how many bytes a packet takes of what waits, of whose c characters k may go
+abbrev pub takenBytes : List ℕ → Waiting → ℕ → ℕ → ℕ
+takenBytes texts w c k = cond (eqb k c) (min (w .len) roomSize) (length (front k (waitingIn texts (w .room) (w .len))))
+
+-- what the packet at clock t is written from, with this M and so many bytes of what waits
+abbrev pub draftOf : Sender → ℕ → Bool → ℕ → Draft
+draftOf s t m n = record {
   level = s .settings .level;
   t140 = s .settings .t140;
   red = s .settings .red;
@@ -49,7 +62,7 @@ draftOf s t m = record {
   ats = s .kept .ats;
   count = s .kept .count;
   room = s .waiting .room;
-  len = s .waiting .len;
+  len = n;
 }
 
 -- the clock alone is changed
@@ -59,29 +72,47 @@ recordAt s t = record {
   clock = t;
   waiting = s .waiting;
   kept = s .kept;
+  pace = s .pace;
   progress = s .progress;
 }
 
--- what waited is the newest block, in its place
-abbrev pub recordAfter : Sender → ℕ → Sender
-recordAfter s t = record {
+-- n bytes of what waited, k characters, are the newest block, in its place
+abbrev pub recordAfter : Sender → ℕ → ℕ → ℕ → Sender
+recordAfter s t n k = record {
   settings = s .settings;
   clock = t;
-  waiting = emptiedOf (s .waiting);
-  kept = keptWith (s .kept) (s .waiting .len) t;
-  progress = progressBehind (s .progress) (s .waiting .len) t;
+  waiting = leftOf (s .waiting) n k t;
+  kept = keptWith (s .kept) n t;
+  pace = paceAfter (s .pace) (s .settings .rate) k;
+  progress = progressBehind (s .progress) n t;
 }
 
-abbrev pub recordBehind : Answer → Sender → ℕ → Sender
-recordBehind (Refused r) s t = s
-recordBehind Quiet s t = recordAt s t
-recordBehind (Sent n) s t = recordAfter s t
+abbrev pub recordBehind : Answer → Sender → ℕ → ℕ → ℕ → Sender
+recordBehind (Refused r) s t n k = s
+recordBehind Quiet s t n k = recordAt s t
+recordBehind (Sent l) s t n k = recordAfter s t n k
 
--- the sender that came and the one that is left are those of 01; and the fields are told besides
-pub record Clocks (s : Sender) (texts : List ℕ) (t : ℕ) (p : List ℕ) (r : Answer) (s' : Sender) (p' : List ℕ) : Type 0 where
-  pub result : record { answer = clockAnswer r; sender = stateOf s' texts; lent = p' } ≡ clockOf (stateOf s texts) t p
-  pub fields : s' ≡ recordBehind r s t
+-- what is left of what waits begins the next slot
+abbrev pub textsBehind : Answer → Sender → List ℕ → ℕ → List ℕ
+textsBehind (Refused r) s texts n = texts
+textsBehind Quiet s texts n = texts
+textsBehind (Sent l) s texts n = restKept (s .waiting .room) (s .waiting .len) n texts
 
--- what a call that is ready answers, by the packet's length n; m is M
-abbrev pub Sends : Sender → List ℕ → ℕ → List ℕ → Bool → ℕ → Sender → List ℕ → Type 0
-Sends s texts t p m n s' p' = ready ≡ judgementAt s t → m ≡ markerDue s → Clocks s texts t p (answerBy n (length p)) s' p'
+-- the clock stands in the next k slots
+abbrev pub logBehind : Answer → Sender → List ℕ → ℕ → ℕ → List ℕ
+logBehind (Refused r) s log t k = log
+logBehind Quiet s log t k = log
+logBehind (Sent l) s log t k = spentIn (slotsOf (s .settings .rate)) log (s .pace .next) t k
+
+-- the sender that came and the one that is left are those of 01; and the fields, each byte of the texts and each time of the log are
+-- told besides
+pub record Clocks (s : Sender) (texts log : List ℕ) (t : ℕ) (p : List ℕ) (r : Answer) (s' : Sender) (texts' log' p' : List ℕ) : Type 0 where
+  pub result : record { answer = clockAnswer r; sender = stateOf s' texts' log'; lent = p' } ≡ clockOf (stateOf s texts log) t p
+  pub fields : s' ≡ recordBehind r s t (length (taken (stateOf s texts log) t)) (going (stateOf s texts log) t)
+  pub bytes : texts' ≡ textsBehind r s texts (length (taken (stateOf s texts log) t))
+  pub times : log' ≡ logBehind r s log t (going (stateOf s texts log) t)
+
+-- what a call that is ready answers, by the packet's length n; b tells whether it is the first
+abbrev pub Sends : Sender → List ℕ → List ℕ → ℕ → List ℕ → Bool → ℕ → Sender → List ℕ → List ℕ → List ℕ → Type 0
+Sends s texts log t p b n s' texts' log' p' =
+    ready ≡ judgementAt s t → b ≡ isFirst s → Clocks s texts log t p (answerBy n (length p)) s' texts' log' p'

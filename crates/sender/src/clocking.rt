@@ -1,18 +1,30 @@
 // The clock call.
 ghost use mathlib.Core.Path.{_≡_};
-ghost use mathlib.Core.Bool.{not};
-ghost use lib.ListN.{length};
-ghost use Rattle.base.specs.Flags.{isSet};
+ghost use mathlib.Core.Bool.{_||_};
+ghost use lib.ListN.{length, take, drop};
+ghost use Prim.Native.Nat.{_-_, _≤_};
+ghost use Rattle.text_spec.specs.Front.{front};
 ghost use Rattle.settings.specs.Judging.{judged};
 ghost use Rattle.writer.specs.Draft.{answerBy};
-ghost use Rattle.sender.specs.Clocking.{judgementAt, refusedBy, markerDue, draftOf, recordAt, recordAfter, recordBehind, Sends};
+ghost use Rattle.sender.specs.Clocking.{judgementAt, refusedBy, isFirst, markerDue, takenBytes, draftOf, recordAt, recordAfter, recordBehind, Sends};
 use crate::Sender;
+use numbers::least;
 use settings::Judged;
+use slots::Texts;
+use slots::Waiting;
 use writer::Answer;
 use writer::Draft;
 
-fn draft(sender: Sender, clock: u64, marker: bool) -> Draft
-    ensures { λ r. ⌜ r ≡ draftOf sender clock marker ⌝ }
+// What a call that is ready comes to: the packet's length, 0 where there is nothing to send, and how many bytes and characters it
+// takes of what waits.
+pub struct Sending {
+    pub size: usize,
+    pub len: usize,
+    pub characters: usize,
+}
+
+fn draft(sender: Sender, clock: u64, marker: bool, len: usize) -> Draft
+    ensures { λ r. ⌜ r ≡ draftOf sender clock marker len ⌝ }
 {
     let settings = sender.settings;
     let progress = sender.progress;
@@ -34,7 +46,7 @@ fn draft(sender: Sender, clock: u64, marker: bool) -> Draft
         ats,
         count: kept.count,
         room: waiting.room,
-        len: waiting.len,
+        len,
     }
 }
 
@@ -60,36 +72,78 @@ pub fn refused(judgement: Judged) -> Answer
 
 // No packet was sent yet.
 pub fn is_first(sender: Sender) -> bool
-    ensures { λ r. ⌜ r ≡ not (isSet (sender .progress .sent)) ⌝ }
+    ensures { λ r. ⌜ r ≡ isFirst sender ⌝ }
 {
     let progress = sender.progress;
     let sent = progress.has_sent();
     !sent
 }
 
-// M of the next packet.
-pub fn marker(sender: Sender) -> bool
-    ensures { λ r. ⌜ r ≡ markerDue sender ⌝ }
+// M of a packet that takes so many bytes.
+fn marker(sender: Sender, first: bool, len: usize) -> bool
+    ensures { λ r. ⌜ r ≡ (first || markerDue sender len) ⌝ }
 {
+    if first {
+        return true;
+    }
     let settings = sender.settings;
     let progress = sender.progress;
     let waiting = sender.waiting;
-    let waits = 0 < waiting.len;
-    settings::marker(progress, settings.buffering, waits, waiting.since)
+    let takes = 0 < len;
+    settings::marker(progress, settings.buffering, takes, waiting.since)
 }
 
-// Writes the packet of a call that is ready, with this M, where the space holds it; its length, 0 where there is nothing to send.
+fn front_of(texts: &[u8], from: usize, end: usize, most: usize) -> usize
+    requires { ⌜ (from ≤ end) × (end ≤ length (now texts)) ⌝ }
+    ensures { λ r. ⌜ r ≡ length (front most (take (end - from) (drop from (now (texts .entry))))) ⌝ }
+{
+    text::front(&texts[from..end], most)
+}
+
+// How many bytes a packet takes, by how many of the characters that wait may go.
+fn taken(waiting: Waiting, texts: &[u8; Sender::TEXTS], characters: usize, going: usize) -> usize
+    ensures { λ r. ⌜ r ≡ takenBytes (now (texts .entry)) waiting characters going ⌝ }
+{
+    let len = least(waiting.len, Texts::ROOM);
+    if going == characters {
+        return len;
+    }
+    let from = slots::room_of(waiting.room) * Texts::ROOM;
+    front_of(texts, from, from + len, going)
+}
+
+// Writes the packet of a call that is ready, where there is something to send and the space holds it.
 pub fn put(
     sender: Sender,
-    texts: &[u8; Sender::TEXTS],
+    texts: &mut [u8; Sender::TEXTS],
+    log: &mut [u64; Sender::LOG],
     clock: u64,
     packet: &mut [u8],
-    marker: bool,
-) -> usize
-    ensures { λ r. ⌜ Sends sender (now (texts .entry)) clock (now (packet .entry)) marker r (recordBehind (answerBy r (length (now (packet .entry)))) sender clock) (now (packet .exit)) ⌝ }
+    first: bool,
+) -> Sending
+    ensures { λ r. ⌜ Sends sender (now (texts .entry)) (now (log .entry)) clock (now (packet .entry)) first (r .size) (recordBehind (answerBy (r .size) (length (now (packet .entry)))) sender clock (r .len) (r .characters)) (now (texts .exit)) (now (log .exit)) (now (packet .exit)) ⌝ }
 {
-    let draft = draft(sender, clock, marker);
-    writer::put_packet(packet, texts, draft)
+    let settings = sender.settings;
+    let waiting = sender.waiting;
+    let pace = sender.pace;
+    let characters = least(waiting.characters, Texts::ROOM);
+    let going = pace.allowed(settings.rate, log, clock, characters);
+    let len = taken(waiting, texts, characters, going);
+    let marker = marker(sender, first, len);
+    let draft = draft(sender, clock, marker, len);
+    let size = writer::put_packet(packet, texts, draft);
+    let sending = Sending {
+        size,
+        len,
+        characters: going,
+    };
+    let answer = Answer::by_size(size, packet.len());
+    if !answer.is_sent() {
+        return sending;
+    }
+    pace.spend(settings.rate, log, clock, going);
+    slots::keep_rest(texts, waiting.room, waiting.len, len);
+    sending
 }
 
 // The sender behind a quiet call.
@@ -102,16 +156,19 @@ pub fn at(sender: Sender, clock: u64) -> Sender
 }
 
 // The sender behind the packet that it sends.
-pub fn after(sender: Sender, clock: u64) -> Sender
-    ensures { λ r. ⌜ r ≡ recordAfter sender clock ⌝ }
+pub fn after(sender: Sender, clock: u64, sending: Sending) -> Sender
+    ensures { λ r. ⌜ r ≡ recordAfter sender clock (sending .len) (sending .characters) ⌝ }
 {
+    let settings = sender.settings;
     let waiting = sender.waiting;
     let kept = sender.kept;
+    let pace = sender.pace;
     let progress = sender.progress;
     let mut next = sender;
     next.clock = clock;
-    next.waiting = waiting.emptied();
-    next.kept = kept.with(waiting.len, clock);
-    next.progress = progress.after(waiting.len, clock);
+    next.waiting = waiting.after(sending.len, sending.characters, clock);
+    next.kept = kept.with(sending.len, clock);
+    next.pace = pace.after(settings.rate, sending.characters);
+    next.progress = progress.after(sending.len, clock);
     next
 }

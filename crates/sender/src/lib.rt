@@ -1,5 +1,6 @@
 // The sender of an RTP text line (RFC 4103, section 5): text waits in a room and leaves in packets that repeat the last blocks.
-// The sender is a small record; the texts, what waits and the blocks kept, lie in bytes that the caller lends.
+// The sender is a small record; the texts, what waits and the blocks kept, lie in bytes that the caller lends, and the times of the
+// last characters in a log that is lent too.
 mod clocking;
 mod offering;
 mod opening;
@@ -10,6 +11,8 @@ ghost use Rattle.sender.specs.Clocking.{Clocks, Sends};
 use carrying::Block;
 use packet::Outcome;
 use packet::Packet;
+use rate::Log;
+use rate::Pace;
 use settings::Progress;
 use settings::Settings;
 use slots::Kept;
@@ -17,14 +20,15 @@ use slots::Texts;
 use slots::Waiting;
 use writer::Answer;
 
-// A sender: its settings, the latest accepted clock, what waits, the last blocks sent, and how far it has come. The blocks' texts
-// lie in the slots before that of what waits, in a circle.
+// A sender: its settings, the latest accepted clock, what waits, the last blocks sent, where the times of the last characters lie,
+// and how far it has come. The blocks' texts lie in the slots before that of what waits, in a circle.
 #[repr(C)]
 pub struct Sender {
     pub settings: Settings,
     pub clock: u64,
     pub waiting: Waiting,
     pub kept: Kept,
+    pub pace: Pace,
     pub progress: Progress,
 }
 
@@ -43,6 +47,8 @@ impl Sender {
     pub const OLDEST: u64 = Block::OLDEST;
     // The bytes to lend for the texts.
     pub const TEXTS: usize = Texts::SIZE;
+    // The times to lend.
+    pub const LOG: usize = Log::SIZE;
 
     // Opens a sender, at clock 0.
     pub fn open(settings: Settings) -> Opened
@@ -65,27 +71,33 @@ impl Sender {
     pub fn offer(&mut self, clock: u64, text: &[u8], texts: &mut [u8; Sender::TEXTS]) -> Outcome
         ensures { λ r. ⌜ Offers (now (self .entry)) (now (texts .entry)) clock (now (text .entry)) r (now (self .exit)) (now (texts .exit)) ⌝ }
     {
-        let outcome = offering::offered(*self, clock, text, texts);
-        if outcome.is_refused() {
-            return outcome;
+        let offered = offering::offered(*self, clock, text, texts);
+        if offered.is_refused() {
+            return offered.outcome();
         }
-        *self = offering::with(*self, clock, text);
-        outcome
+        let characters = offered.characters();
+        *self = offering::with(*self, clock, text, characters);
+        offered.outcome()
     }
 
     // Gives the clock: where a packet is due, it is written to the front of the lent packet; where the call is refused, the
-    // sender stays as it is.
-    pub fn clock(&mut self, clock: u64, texts: &[u8; Sender::TEXTS], packet: &mut [u8]) -> Answer
-        ensures { λ r. ⌜ Clocks (now (self .entry)) (now (texts .entry)) clock (now (packet .entry)) r (now (self .exit)) (now (packet .exit)) ⌝ }
+    // sender and all that is lent stay as they are.
+    pub fn clock(
+        &mut self,
+        clock: u64,
+        texts: &mut [u8; Sender::TEXTS],
+        log: &mut [u64; Sender::LOG],
+        packet: &mut [u8],
+    ) -> Answer
+        ensures { λ r. ⌜ Clocks (now (self .entry)) (now (texts .entry)) (now (log .entry)) clock (now (packet .entry)) r (now (self .exit)) (now (texts .exit)) (now (log .exit)) (now (packet .exit)) ⌝ }
     {
         let judgement = clocking::judge(*self, clock);
         if judgement.is_ready() {
             if clocking::is_first(*self) {
-                let size = self.send(texts, clock, packet, true);
+                let size = self.send(texts, log, clock, packet, true);
                 return Answer::by_size(size, packet.len());
             }
-            let marker = clocking::marker(*self);
-            let size = self.send(texts, clock, packet, marker);
+            let size = self.send(texts, log, clock, packet, false);
             return Answer::by_size(size, packet.len());
         }
         if judgement.is_early() {
@@ -95,26 +107,28 @@ impl Sender {
         clocking::refused(judgement)
     }
 
-    // Sends the packet of a call that is ready, with this M, where there is something to send and the space holds it; the packet's
-    // length, as `put` answers it. It stands apart and is called in two places, so that it is not inlined and a quiet call saves no
-    // registers for it.
+    // Sends the packet of a call that is ready, the first or a later one, where there is something to send and the space holds
+    // it; the packet's length, as `put` answers it. It stands apart and is called in two places, so that it is not inlined and a
+    // quiet call saves no registers for it.
     fn send(
         &mut self,
-        texts: &[u8; Sender::TEXTS],
+        texts: &mut [u8; Sender::TEXTS],
+        log: &mut [u64; Sender::LOG],
         clock: u64,
         packet: &mut [u8],
-        marker: bool,
+        first: bool,
     ) -> usize
-        ensures { λ r. ⌜ Sends (now (self .entry)) (now (texts .entry)) clock (now (packet .entry)) marker r (now (self .exit)) (now (packet .exit)) ⌝ }
+        ensures { λ r. ⌜ Sends (now (self .entry)) (now (texts .entry)) (now (log .entry)) clock (now (packet .entry)) first r (now (self .exit)) (now (texts .exit)) (now (log .exit)) (now (packet .exit)) ⌝ }
     {
-        let size = clocking::put(*self, texts, clock, packet, marker);
+        let sending = clocking::put(*self, texts, log, clock, packet, first);
+        let size = sending.size;
         let answer = Answer::by_size(size, packet.len());
         if answer.is_quiet() {
             *self = clocking::at(*self, clock);
             return size;
         }
         if answer.is_sent() {
-            *self = clocking::after(*self, clock);
+            *self = clocking::after(*self, clock, sending);
             return size;
         }
         size

@@ -2,6 +2,7 @@
 ghost use mathlib.Core.Path.{_≡_};
 ghost use Rattle.sender.specs.Opening as Opening;
 use crate::Sender;
+use rate::Pace;
 use settings::Progress;
 use settings::Settings;
 use slots::Kept;
@@ -20,6 +21,7 @@ pub fn fresh(settings: Settings) -> Sender
     let waiting = Waiting {
         room: 0,
         len: 0,
+        characters: 0,
         since: 0,
     };
     let kept = Kept {
@@ -27,11 +29,13 @@ pub fn fresh(settings: Settings) -> Sender
         ats: [0u64; Sender::LEVEL],
         count: 0,
     };
+    let pace = Pace { next: 0, used: 0 };
     Sender {
         settings,
         clock: 0,
         waiting,
         kept,
+        pace,
         progress,
     }
 }
@@ -42,6 +46,7 @@ pub fn zeros() -> Sender
     let settings = Settings {
         level: 0,
         buffering: 0,
+        rate: 0,
         t140: 0,
         red: 0,
         sequence: 0,

@@ -45,7 +45,7 @@ sent-fits s t p h = go (clockOf s t p) (clock-shape s t p)
     go r (Shapes.quiet k e) = refl
     go r (Shapes.sent k l e m) = signed-small _ (omega arith)
 
-pub code-exact : (s : Sender) (texts : List ℕ) (t : ℕ) (p : List ℕ) (r : Answer) (s' : Sender) (p' : List ℕ) → Clocks s texts t p r s' p' → length p * 1 < 2 ^ 63
+pub code-exact : (s : Sender) (texts log : List ℕ) (t : ℕ) (p : List ℕ) (r : Answer) (s' : Sender) (texts' log' p' : List ℕ) → Clocks s texts log t p r s' texts' log' p' → length p * 1 < 2 ^ 63
     → codeOf (clockAnswer r) ≡ clockCode (clockAnswer r)
-code-exact s texts t p r s' p' c h =
-    subst (λ (x : ClockAnswer). codeOf x ≡ clockCode x) (sym (ap (λ (x : ClockResult). x .answer) (c .result))) (sent-fits (stateOf s texts) t p h)
+code-exact s texts log t p r s' texts' log' p' c h =
+    subst (λ (x : ClockAnswer). codeOf x ≡ clockCode x) (sym (ap (λ (x : ClockResult). x .answer) (c .result))) (sent-fits (stateOf s texts log) t p h)

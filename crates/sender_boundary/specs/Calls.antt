@@ -18,10 +18,11 @@ use Rattle.sender.specs.Offering.{Offers}
 use Rattle.writer.specs.Draft.{clockAnswer}
 use Rattle.sender.specs.Clocking.{Clocks}
 
-abbrev pub settingsFrom : ℕ → ℕ → ℕ → ℕ → ℕ → ℕ → ℕ → Settings
-settingsFrom level buffering t140 red sequence timestamp source = record {
+abbrev pub settingsFrom : ℕ → ℕ → ℕ → ℕ → ℕ → ℕ → ℕ → ℕ → Settings
+settingsFrom level buffering rate t140 red sequence timestamp source = record {
   level = level;
   buffering = buffering;
+  rate = rate;
   t140 = t140;
   red = red;
   sequence = sequence;
@@ -59,7 +60,7 @@ pub record OffersIn (s : Sender) (texts : List ℕ) (t : ℕ) (x : List ℕ) (r 
   pub offers : Offers s texts t x outcome s' texts'
 
 -- the code r of a clock call
-pub record ClocksIn (s : Sender) (texts : List ℕ) (t : ℕ) (p : List ℕ) (r : ℤ) (s' : Sender) (p' : List ℕ) : Type 0 where
+pub record ClocksIn (s : Sender) (texts log : List ℕ) (t : ℕ) (p : List ℕ) (r : ℤ) (s' : Sender) (texts' log' p' : List ℕ) : Type 0 where
   pub answer : Answer
   pub code : r ≡ clockCode (clockAnswer answer)
-  pub clocks : Clocks s texts t p answer s' p'
+  pub clocks : Clocks s texts log t p answer s' texts' log' p'

@@ -19,18 +19,20 @@ pub fn open(
     texts: &mut [u8; Sender::TEXTS],
     level: usize,
     buffering: u64,
+    rate: usize,
     t140: u8,
     red: u8,
     sequence: u16,
     timestamp: u32,
     source: u32,
 ) -> Opened
-    ensures { λ r. ⌜ Opens (settingsFrom level buffering t140 red sequence timestamp source) r × (now (texts .exit) ≡ replicate textsSize 0) ⌝ }
+    ensures { λ r. ⌜ Opens (settingsFrom level buffering rate t140 red sequence timestamp source) r × (now (texts .exit) ≡ replicate textsSize 0) ⌝ }
 {
     *texts = [0u8; Sender::TEXTS];
     let settings = Settings {
         level,
         buffering,
+        rate,
         t140,
         red,
         sequence,

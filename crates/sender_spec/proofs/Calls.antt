@@ -10,7 +10,7 @@ use Rattle.packet_spec.specs.Limits.{level}
 use Rattle.packet_spec.specs.Header.{typesBad}
 use Rattle.text_spec.specs.Utf8.{isText}
 use Rattle.sender_spec.specs.Limits.{roomSize}
-use Rattle.sender_spec.specs.Settings.{bufferingBad, settingsNumber}
+use Rattle.sender_spec.specs.Settings.{bufferingBad, rateBad, settingsNumber}
 use Rattle.sender_spec.specs.State.{Settings, Sender, freshSender}
 use Rattle.sender_spec.specs.Answers.{ClockResult}
 use Rattle.sender_spec.specs.Calls.{openSender, senderRefused, offerOf, offerRefused, clockOf, clockSent, clockQuiet, clockRefused}
@@ -33,9 +33,14 @@ module _ (s : Settings) where
       unfolding settingsNumber
       settings-3 h = rw (le-ltb level (s .level) few, buffered, h)
 
-      pub settings-pass : typesBad (s .t140) (s .red) ≡ false → settingsNumber s ≡ 0
-      unfolding settingsNumber
-      settings-pass h = rw (le-ltb level (s .level) few, buffered, h)
+      module _ (typed : typesBad (s .t140) (s .red) ≡ false) where
+        pub settings-9 : rateBad (s .rate) ≡ true → settingsNumber s ≡ 9
+        unfolding settingsNumber
+        settings-9 h = rw (le-ltb level (s .level) few, buffered, typed, h)
+
+        pub settings-pass : rateBad (s .rate) ≡ false → settingsNumber s ≡ 0
+        unfolding settingsNumber
+        settings-pass h = rw (le-ltb level (s .level) few, buffered, typed, h)
 
 -- an opening
 module _ (s : Settings) (n : ℕ) (e : n ≡ settingsNumber s) where

@@ -9,7 +9,7 @@ use Rattle.sender_spec.specs.Settings.{settingsNumber}
 use Rattle.sender_spec.specs.State.{Settings, Sender, freshSender, zeroSettings, zeroSender}
 use Rattle.sender_spec.specs.Answers.{CallResult}
 use Rattle.sender_spec.specs.Calls.{openSender, offerOf, clockOf}
-use Rattle.sender_spec.proofs.Tables.{typed, offer, clockIn, clock, accepted, quiet, refused, sent, _answers_, after, Case, from, CasesHold, opened, A, B, letters, notText, M, no-M, ago, holding, before-end}
+use Rattle.sender_spec.proofs.Tables.{rated, typed, offer, clockIn, clock, accepted, quiet, refused, sent, _answers_, after, Case, from, CasesHold, openedAt, opened, A, B, letters, notText, M, no-M, ago, holding, before-end}
 
 -- Openings: settings, and what is answered.
 
@@ -24,7 +24,7 @@ s opens = record { settings = s; answer = record { number = 0; sender = freshSen
 abbrev pub _meets_ : Settings → ℕ → Opening
 s meets n = record { settings = s; answer = record { number = n; sender = zeroSender } }
 
--- 1, 2 and 3, in order
+-- 1, 2, 3 and 9, in order
 unfoldable pub openings : List Opening
 openings =
     typed 5 0 98 98 meets 1
@@ -35,6 +35,12 @@ openings =
     ∷ typed 4 500 98 98 meets 3
     ∷ typed 4 500 95 100 meets 3
     ∷ typed 4 500 98 128 meets 3
+    ∷ rated 4 0 0 98 98 meets 2
+    ∷ rated 4 500 0 98 98 meets 3
+    ∷ rated 4 500 0 98 100 meets 9
+    ∷ rated 4 500 101 98 100 meets 9
+    ∷ rated 4 500 1 98 100 opens
+    ∷ rated 4 500 100 98 100 opens
     ∷ typed 4 500 96 127 opens
     ∷ typed 0 1 127 96 opens
     ∷ zeroSettings meets 2
@@ -46,12 +52,12 @@ OpeningsHold (o ∷ os) = (openSender (o .settings) ≡ o .answer) × OpeningsHo
 
 pub opening-tests : OpeningsHold openings
 unfolding openings openSender settingsNumber
-opening-tests = (refl, (refl, (refl, (refl, (refl, (refl, (refl, (refl, (refl, (refl, (refl, tt)))))))))))
+opening-tests = (refl, (refl, (refl, (refl, (refl, (refl, (refl, (refl, (refl, (refl, (refl, (refl, (refl, (refl, (refl, (refl, (refl, tt)))))))))))))))))
 
 -- offering: 5, 7, 6, 4, in order; the waiting room holds 160 bytes
 unfoldable pub offering : Case
 offering =
-    from (opened 2 300) (
+    from (openedAt 2 300 100) (
     clock 10 answers quiet
     ∷ offer 9 [] answers refused 5
     ∷ offer 9 (notText 161) answers refused 5

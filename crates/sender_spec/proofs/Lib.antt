@@ -1,9 +1,11 @@
 pub mod Tables
 pub mod CaseTests
+pub mod RateTests
 pub mod Calls
 pub mod SettingsPass
 pub mod ChecksPassed
 pub mod Shapes
+pub mod Allowed
 pub mod StaysSendable
 pub mod Sizes
 pub mod Carried

@@ -39,7 +39,7 @@ module _ (s : Sender) (t : ℕ) (ok : settingsNumber (s .settings) ≡ 0) (g : G
     ReadBack p = reading level expected (s .settings .t140) (s .settings .red) p ≡ holds (contentOf s t)
 
     types : typesBad (s .settings .t140) (s .settings .red) ≡ false
-    types = settings-good (s .settings) ok .2
+    types = settings-good (s .settings) ok .typed
 
     text : allText (blocksOf (contentOf s t .older) (contentOf s t .primary)) ≡ true
     text = all-text (contentOf s t .older) (contentOf s t .primary) (older-good s t g) (taken-good s t g)
@@ -53,7 +53,7 @@ module _ (s : Sender) (t : ℕ) (ok : settingsNumber (s .settings) ≡ 0) (g : G
     redundant : ReadBack (redundantBytes (s .settings .t140) (s .settings .red) (contentOf s t))
     redundant =
         let older = contentOf s t .older in
-        let few : length older ≤ level = le-trans (older-few s t) (settings-good (s .settings) ok .0) in
+        let few : length older ≤ level = le-trans (older-few s t) (settings-good (s .settings) ok .few) in
         let short : Every Short older = all-short older (older-good s t g) in
         redundant-back level expected (s .settings .t140) (s .settings .red) (contentOf s t) types admits text few (lengths-fit older short)
         (packet-fits level (omega arith) (s .settings .t140) (s .settings .red) (contentOf s t) few short (taken-good s t g .1))

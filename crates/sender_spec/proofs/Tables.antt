@@ -14,9 +14,13 @@ use Rattle.sender_spec.specs.Answers
 use Rattle.sender_spec.specs.Answers.{ClockAnswer, ClockResult}
 use Rattle.sender_spec.specs.Calls.{openSender, offerOf, clockOf}
 
--- level, buffering time, T140 and RED
+-- level, buffering time, rate, T140 and RED
+abbrev pub rated : ℕ → ℕ → ℕ → ℕ → ℕ → Settings
+rated r b cps t140 red = record { level = r; buffering = b; rate = cps; t140 = t140; red = red; sequence = 65535; timestamp = 1000; source = 7 }
+
+-- at the usual rate
 abbrev pub typed : ℕ → ℕ → ℕ → ℕ → Settings
-typed r b t140 red = record { level = r; buffering = b; t140 = t140; red = red; sequence = 65535; timestamp = 1000; source = 7 }
+typed r b t140 red = rated r b 30 t140 red
 
 -- Calls on one sender, each on what the one before it left: the call, and what is answered.
 
@@ -78,9 +82,13 @@ abbrev pub CasesHold : List Case → Type 0
 CasesHold [] = Unit {0}
 CasesHold (c ∷ cs) = (answersFrom (c .start) (c .rows) ≡ map (λ r. r .answer) (c .rows)) × CasesHold cs
 
--- level and buffering time; the first sequence number is 65,535, the first timestamp 1000
+-- level, buffering time and rate; the first sequence number is 65,535, the first timestamp 1000
+abbrev pub openedAt : ℕ → ℕ → ℕ → Sender
+openedAt r b cps = openSender (rated r b cps 98 100) .sender
+
+-- at the usual rate
 abbrev pub opened : ℕ → ℕ → Sender
-opened r b = openSender (typed r b 98 100) .sender
+opened r b = openedAt r b 30
 
 abbrev pub A : List ℕ
 A = 0x41 ∷ []

@@ -40,8 +40,10 @@ senderAt s t = record {
   settings = s .settings;
   clock = t;
   waiting = s .waiting;
+  characters = s .characters;
   since = s .since;
   kept = s .kept;
+  times = s .times;
   progress = s .progress;
 }
 

@@ -1,5 +1,6 @@
 pub mod Limits
 pub mod State
+pub mod Rate
 pub mod Settings
 pub mod Answers
 pub mod Offering

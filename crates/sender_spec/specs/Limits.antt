@@ -8,3 +8,7 @@ roomSize = 160
 -- "a buffering time from 1 to 500 ms"
 abbrev pub longestBuffering : ℕ
 longestBuffering = 500
+
+-- "a rate from 1 to 100"
+abbrev pub highestRate : ℕ
+highestRate = 100

@@ -1,10 +1,11 @@
 -- The packet that a sender would send at clock t, whether it is due, and the sender behind it (01, "The sender"). Times are
 -- compared by their differences, which fit 64 bits.
 use Prim.Native.Nat.{ℕ, _+_, _-_, _%_}
-use mathlib.Core.List.{List, [], _∷_, map, reverse}
+use mathlib.Core.List.{List, [], _∷_, _++_, map, reverse}
 use mathlib.Core.Bool.{Bool, true, false, cond, _||_, _&&_, not}
 use lib.Dec.{ltb, leb, eqb}
-use lib.ListN.{take}
+use lib.ListN.{length, take, drop, replicate}
+use Rattle.text_spec.specs.Front.{front}
 use Rattle.packet_spec.specs.Limits.{level}
 use Rattle.packet_spec.specs.Redundancy
 use Rattle.packet_spec.specs.Reading.{Content}
@@ -12,6 +13,7 @@ use Rattle.packet_spec.specs.Encoding.{plainBytes, redundantBytes}
 use Rattle.delivery.specs.Numbers.{next}
 use Rattle.delivery.specs.Run.{oldestAge}
 use Rattle.sender_spec.specs.State.{SentBlock, Progress, Sender, hasText}
+use Rattle.sender_spec.specs.Rate.{limitOf, allowed}
 
 -- "sent at most 16,383 ms before t"
 abbrev pub recent : ℕ → SentBlock → Bool
@@ -26,13 +28,17 @@ recentRun t (b ∷ bs) = cond (recent t b) (b ∷ recentRun t bs) []
 abbrev pub carried : Sender → ℕ → List SentBlock
 carried s t = recentRun t (take (s .settings .level) (s .kept))
 
--- "A due packet takes the whole waiting room as primary (empty if there is none)"
-abbrev pub taken : Sender → ℕ → List ℕ
-taken s t = s .waiting
+-- how many of the waiting characters the rate lets go at t
+abbrev pub going : Sender → ℕ → ℕ
+going s t = allowed (limitOf (s .settings)) (s .times) t (s .characters)
 
--- and leaves nothing there
+-- "A due packet takes the longest whole-character front of the waiting room that fits" (02): all of it where all may go
+abbrev pub taken : Sender → ℕ → List ℕ
+taken s t = cond (eqb (going s t) (s .characters)) (s .waiting) (front (going s t) (s .waiting))
+
+-- and leaves the rest there
 abbrev pub left : Sender → ℕ → List ℕ
-left s t = []
+left s t = drop (length (taken s t)) (s .waiting)
 
 abbrev pub anyText : List SentBlock → Bool
 anyText [] = false
@@ -42,7 +48,8 @@ anyText (b ∷ bs) = hasText (b .text) || anyText bs
 abbrev pub readyAt : ℕ → Progress → ℕ → Bool
 readyAt buffering p t = not (p .sent) || leb buffering (t - p .last)
 
--- and besides this the waiting room is not empty or one of the blocks it would carry is not empty"
+-- and besides this the waiting room is not empty or one of the blocks it would carry is not empty"; "if none fits, the due rule
+-- treats the room as empty" (02)
 abbrev pub due : Sender → ℕ → Bool
 due s t = readyAt (s .settings .buffering) (s .progress) t && (hasText (taken s t) || anyText (carried s t))
 
@@ -76,6 +83,10 @@ packetBytes s t =
 abbrev pub keptAfter : Sender → ℕ → List SentBlock
 keptAfter s t = take level (record { text = taken s t; at = t } ∷ s .kept)
 
+-- the last characters that count for the rate
+abbrev pub timesAfter : Sender → ℕ → List ℕ
+timesAfter s t = take (limitOf (s .settings)) (replicate (going s t) t ++ s .times)
+
 -- "sequence grows by 1, wrapped"
 abbrev pub progressAfter : Sender → ℕ → Progress
 progressAfter s t = record {
@@ -85,12 +96,15 @@ progressAfter s t = record {
   next = next (s .progress .next);
 }
 
+-- "With a leftover the M rule counts it as offered when the previous text packet was sent" (02)
 abbrev pub afterPacket : Sender → ℕ → Sender
 afterPacket s t = record {
   settings = s .settings;
   clock = t;
   waiting = left s t;
-  since = 0;
+  characters = s .characters - going s t;
+  since = cond (hasText (taken s t)) t (s .since);
   kept = keptAfter s t;
+  times = timesAfter s t;
   progress = progressAfter s t;
 }

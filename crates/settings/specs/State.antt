@@ -12,6 +12,7 @@ abbrev pub settingsOf : Settings → State.Settings
 settingsOf s = record {
   level = s .level;
   buffering = s .buffering;
+  rate = s .rate;
   t140 = s .t140;
   red = s .red;
   sequence = s .sequence;

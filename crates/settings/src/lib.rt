@@ -5,7 +5,7 @@ ghost use lib.Dec.{ltb};
 ghost use Prim.Native.Nat.{_+_, _-_, _%_};
 ghost use Rattle.base.specs.Flags.{isSet};
 ghost use Rattle.packet.specs.Refusal.{outcomeNumber};
-ghost use Rattle.sender_spec.specs.Settings.{bufferingBad, settingsNumber};
+ghost use Rattle.sender_spec.specs.Settings.{bufferingBad, rateBad, settingsNumber};
 ghost use Rattle.sender_spec.specs.Packets.{readyAt};
 ghost use Rattle.settings.specs.State.{settingsOf, progressOf, progressBehind};
 ghost use Rattle.settings.specs.Judging.{judged, isEarly, isReady, judgementOf};
@@ -13,12 +13,13 @@ use packet::Outcome;
 use packet::Packet;
 use packet::Refusal;
 
-// What a sender is opened with: the number of repeats, the buffering time in ms, the two payload types, the first sequence
-// number, the first timestamp and the source.
+// What a sender is opened with: the number of repeats, the buffering time in ms, the rate in characters per second, the two
+// payload types, the first sequence number, the first timestamp and the source.
 #[repr(C)]
 pub struct Settings {
     pub level: usize,
     pub buffering: u64,
+    pub rate: usize,
     pub t140: u8,
     pub red: u8,
     pub sequence: u16,
@@ -31,6 +32,11 @@ impl Settings {
     pub const BUFFERING: u64 = 300;
 
     pub const LONGEST_BUFFERING: u64 = 500;
+
+    // The usual rate, in characters per second.
+    pub const RATE: usize = 30;
+
+    pub const HIGHEST_RATE: usize = 100;
 }
 
 // Whether a packet was sent, when the last one was, when the last one with text was, and the next sequence number.
@@ -83,6 +89,15 @@ fn buffering_bad(buffering: u64) -> bool
     Settings::LONGEST_BUFFERING < buffering
 }
 
+fn rate_bad(rate: usize) -> bool
+    ensures { λ r. ⌜ r ≡ rateBad rate ⌝ }
+{
+    if rate == 0 {
+        return true;
+    }
+    Settings::HIGHEST_RATE < rate
+}
+
 // The refusal that the settings call for.
 pub fn settings_outcome(settings: Settings) -> Outcome
     ensures { λ r. ⌜ outcomeNumber r ≡ settingsNumber (settingsOf settings) ⌝ }
@@ -97,17 +112,10 @@ pub fn settings_outcome(settings: Settings) -> Outcome
     if header::types_bad(settings.t140, settings.red) {
         return Outcome::Refused(Refusal::PayloadTypes);
     }
-    Outcome::Accepted
-}
-
-// The time since `from`, 0 where that is later.
-fn passed(clock: u64, from: u64) -> u64
-    ensures { λ r. ⌜ r ≡ clock - from ⌝ }
-{
-    if clock < from {
-        return 0;
+    if rate_bad(settings.rate) {
+        return Outcome::Refused(Refusal::Rate);
     }
-    clock - from
+    Outcome::Accepted
 }
 
 // None was sent yet, or the buffering time has passed since the last.
@@ -115,7 +123,7 @@ fn ready(progress: Progress, buffering: u64, clock: u64) -> bool
     ensures { λ r. ⌜ r ≡ readyAt buffering (progressOf progress) clock ⌝ }
 {
     if progress.has_sent() {
-        let waited = passed(clock, progress.last);
+        let waited = numbers::passed(clock, progress.last);
         return buffering <= waited;
     }
     true
@@ -149,7 +157,7 @@ pub fn marker(progress: Progress, buffering: u64, waits: bool, since: u64) -> bo
     if !waits {
         return false;
     }
-    let waited = passed(since, progress.last_text);
+    let waited = numbers::passed(since, progress.last_text);
     buffering < waited
 }
 

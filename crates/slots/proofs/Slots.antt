@@ -1,16 +1,18 @@
 -- The circle of slots, and the texts in them.
-use Prim.Native.Nat.{ℕ, zero, suc, _+_, _-_, _%_, _≤_, _<_, min}
+use Prim.Native.Nat.{ℕ, zero, suc, _+_, _-_, _*_, _%_, _≤_, _<_, min}
 use mathlib.Core.Path.{_≡_, _∙_, refl, ap, sym}
-use mathlib.Core.List.{List}
+use mathlib.Core.List.{List, _++_}
+use mathlib.Core.Bool.{Bool, true, false}
 use native.Mathlib.Omega.{arith}
-use lib.Dec.{ltb}
-use lib.ListN.{length, length-take, length-drop}
-use borrow.Author.Tests.{lt-ltb, ltb-true}
+use lib.Dec.{ltb, leb}
+use lib.ListN.{length, take, drop, length-take, length-drop}
+use borrow.Author.Tests.{lt-ltb, ltb-true, leb-true, leb-false}
 use Rattle.base.proofs.Tests.{by-test}
 use Rattle.packet_spec.specs.Limits.{level}
 use Rattle.sender_spec.specs.Limits.{roomSize}
 use Rattle.sender_spec.specs.State.{hasText}
-use Rattle.slots.specs.Slots.{slots, textsSize, roomOf, slotOf, slotText, waitingIn}
+use Rattle.slots.specs.Slots.{slots, textsSize, roomOf, slotOf, onward, slotText, waitingIn, written}
+use Rattle.slots.proofs.Written.{written-before, written-behind, written-joins}
 
 pub room-slot : (room : ℕ) → roomOf room < slots
 room-slot room = by-test (λ (k : ℕ). k < slots) (ltb room slots) (λ e. ltb-true room slots e) (λ e. omega arith)
@@ -21,6 +23,10 @@ room-same room h = rw (lt-ltb room slots h)
 -- what waits lies no packet back
 pub slot-now : (room : ℕ) → slotOf room 0 ≡ roomOf room
 slot-now room = omega (arith, room-slot room)
+
+-- and the blocks kept in other slots
+pub slot-other : (room back : ℕ) → 1 ≤ back → back < slots → slotOf room back ≡ roomOf room → ⊥
+slot-other room back h k e = let b : roomOf room < slots = room-slot room in omega arith
 
 -- a slot lies within the texts
 module _ (texts : List ℕ) (whole : length texts ≡ textsSize) where
@@ -37,19 +43,39 @@ module _ (texts : List ℕ) (whole : length texts ≡ textsSize) where
       go zero = refl
       go (suc n) = lt-ltb 0 (min (suc n) roomSize) (omega arith) ∙ sym (lt-ltb 0 (suc n) (omega arith))
 
--- the slot behind
-abbrev pub onward : ℕ → ℕ
-onward room = (roomOf room + 1) % slots
+-- the slot behind is one of the circle
+pub onward-room : (room : ℕ) → roomOf (onward room) ≡ onward room
+onward-room room = room-same (onward room) (omega arith)
 
 pub slot-on : (room back : ℕ) → back ≤ level → slotOf (onward room) (suc back) ≡ slotOf room back
 slot-on room back h =
     let r = roomOf room in
     let b : r < slots = room-slot room in
-    let e : roomOf (onward room) ≡ onward room = room-same (onward room) (omega arith) in
-    ap (λ (n : ℕ). (n + slots - suc back) % slots) e ∙ go r b
+    ap (λ (n : ℕ). (n + slots - suc back) % slots) (onward-room room) ∙ go r b
   where
     go : (r : ℕ) → r < slots → ((r + 1) % slots + slots - suc back) % slots ≡ (r + slots - back) % slots
     go r b = omega arith
 
 pub slot-newest : (room : ℕ) → slotOf (onward room) 1 ≡ roomOf room
 slot-newest room = slot-on room 0 (omega arith) ∙ slot-now room
+
+-- bytes written within a slot
+module _ (slot from : ℕ) (texts x : List ℕ) (size : length texts ≡ textsSize) (below : slot < slots) (fits : from + length x ≤ roomSize) where
+  within : slot * roomSize + from + length x ≤ length texts
+  within = omega arith
+
+  -- join the front of so many there
+  pub slot-joined : slotText (written (slot * roomSize + from) x texts) slot (from + length x) ≡ slotText texts slot from ++ x
+  slot-joined =
+      let e : min (from + length x) roomSize ≡ from + length x = omega arith in
+      let f : min from roomSize ≡ from = omega arith in
+      ap (λ (n : ℕ). take n (drop (slot * roomSize) (written (slot * roomSize + from) x texts))) e
+      ∙ written-joins (slot * roomSize + from) x texts within (slot * roomSize) from refl ∙ ap (λ (n : ℕ). take n (drop (slot * roomSize) texts) ++ x) (sym f)
+
+  -- and leave the other slots as they are
+  pub other-stays : (other n : ℕ) → other < slots → (other ≡ slot → ⊥) → slotText (written (slot * roomSize + from) x texts) other n ≡ slotText texts other n
+  other-stays other n h differs = go (leb other slot) refl
+    where
+      go : (b : Bool) → leb other slot ≡ b → slotText (written (slot * roomSize + from) x texts) other n ≡ slotText texts other n
+      go true e = let l : other ≤ slot = leb-true other slot e in written-before (slot * roomSize + from) x texts within (other * roomSize) (min n roomSize) (omega arith)
+      go false e = let l : slot < other = leb-false other slot e in ap (take (min n roomSize)) (written-behind (slot * roomSize + from) x texts within (other * roomSize) (omega arith))

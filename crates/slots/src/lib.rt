@@ -3,12 +3,14 @@ ghost use mathlib.Core.Path.{_≡_};
 ghost use mathlib.Core.List.{_∷_};
 ghost use mathlib.Core.Bool.{cond};
 ghost use lib.Dec.{ltb};
-ghost use lib.ListN.{length, take};
-ghost use Prim.Native.Nat.{_+_, _%_, _<_};
+ghost use lib.ListN.{length, take, drop};
+ghost use Prim.Native.Nat.{_+_, _-_, _≤_, _<_, min};
 ghost use Rattle.packet_spec.specs.Limits.{level};
-ghost use Rattle.slots.specs.Slots.{slots, roomOf};
-ghost use Rattle.slots.specs.Held.{joinedOf, emptiedOf, keptWith};
+ghost use Rattle.sender_spec.specs.Limits.{roomSize};
+ghost use Rattle.slots.specs.Slots.{slots, textsSize, roomOf, onward, written, restKept};
+ghost use Rattle.slots.specs.Held.{joinedOf, leftOf, keptWith};
 use carrying::Block;
+use numbers::least;
 use packet::Packet;
 
 // The lent texts of a sender: a slot for what waits, and one for each block kept.
@@ -35,7 +37,7 @@ pub fn room_of(room: usize) -> usize
 
 // The slot behind it, in the circle: the oldest block's.
 fn next_room(room: usize) -> usize
-    ensures { λ r. ⌜ r ≡ (roomOf room + 1) % slots ⌝ }
+    ensures { λ r. ⌜ (r ≡ onward room) × (r < slots) ⌝ }
 {
     let room = room_of(room);
     if room + 1 < Texts::SLOTS {
@@ -44,50 +46,96 @@ fn next_room(room: usize) -> usize
     0
 }
 
-// What waits: its slot, its length, and when its first byte was offered.
+// Writes the bytes from one place up to another to a third, by way of an array of their own.
+fn copy_within(texts: &mut [u8], from: usize, end: usize, to: usize)
+    requires { ⌜ (from ≤ end) × (end - from ≤ roomSize) × (end ≤ length (now texts)) × (to + (end - from) ≤ length (now texts)) ⌝ }
+    ensures { λ _. ⌜ now (texts .exit) ≡ written to (take (end - from) (drop from (now (texts .entry)))) (now (texts .entry)) ⌝ }
+{
+    let size = end - from;
+    let mut rest = [0u8; Texts::ROOM];
+    bytes::copy(&texts[from..end], &mut rest);
+    bytes::copy(&rest[..size], &mut texts[to..]);
+}
+
+fn keep_in(texts: &mut [u8], room: usize, len: usize, taken: usize)
+    requires { ⌜ length (now texts) ≡ textsSize ⌝ }
+    ensures { λ _. ⌜ now (texts .exit) ≡ restKept room len taken (now (texts .entry)) ⌝ }
+{
+    let size = least(len, Texts::ROOM);
+    if size <= taken {
+        return;
+    }
+    let start = room_of(room) * Texts::ROOM;
+    let to = next_room(room) * Texts::ROOM;
+    copy_within(texts, start + taken, start + size, to);
+}
+
+// What is left of what waits, behind the bytes taken, is written to the next slot.
+pub fn keep_rest(texts: &mut [u8; Texts::SIZE], room: usize, len: usize, taken: usize)
+    ensures { λ _. ⌜ now (texts .exit) ≡ restKept room len taken (now (texts .entry)) ⌝ }
+{
+    keep_in(texts, room, len, taken)
+}
+
+// What waits: its slot, its length, its characters, and when its first byte was offered.
 #[repr(C)]
 pub struct Waiting {
     pub room: usize,
     pub len: usize,
+    pub characters: usize,
     pub since: u64,
 }
 
 impl Waiting {
-    // Text joins it.
-    pub fn joined(self, clock: u64, text: &[u8]) -> Waiting
-        ensures { λ r. ⌜ r ≡ joinedOf self clock (length (now (text .entry))) ⌝ }
+    // Text of so many characters joins it.
+    pub fn joined(self, clock: u64, text: &[u8], characters: usize) -> Waiting
+        ensures { λ r. ⌜ r ≡ joinedOf self clock (length (now (text .entry))) characters ⌝ }
     {
-        let since = first_offered(self.len, self.since, clock);
-        let before = numbers::least(self.len, Texts::ROOM);
-        let len = before + text.len();
+        let len = least(self.len, Texts::ROOM) + text.len();
+        let before = least(self.characters, Texts::ROOM);
+        let characters = before + least(characters, Texts::ROOM);
+        let since = time_by(self.len, self.since, clock);
         Waiting {
             room: self.room,
             len,
+            characters,
             since,
         }
     }
 
-    // A packet took it: nothing waits, in the next slot.
-    pub fn emptied(self) -> Waiting
-        ensures { λ r. ⌜ r ≡ emptiedOf self ⌝ }
+    // A packet took so many bytes and characters of it: what is left waits in the next slot, as if offered at the clock.
+    pub fn after(self, len: usize, characters: usize, clock: u64) -> Waiting
+        ensures { λ r. ⌜ r ≡ leftOf self len characters clock ⌝ }
     {
         let room = next_room(self.room);
+        let since = time_by(len, clock, self.since);
+        let len = left(self.len, len);
+        let characters = left(self.characters, characters);
         Waiting {
             room,
-            len: 0,
-            since: 0,
+            len,
+            characters,
+            since,
         }
     }
 }
 
-// When the first waiting byte was offered.
-fn first_offered(len: usize, since: u64, clock: u64) -> u64
-    ensures { λ r. ⌜ r ≡ cond (ltb 0 len) since clock ⌝ }
+// The first of two times where there are bytes, else the second.
+fn time_by(len: usize, some: u64, none: u64) -> u64
+    ensures { λ r. ⌜ r ≡ cond (ltb 0 len) some none ⌝ }
 {
     if 0 < len {
-        return since;
+        return some;
     }
-    clock
+    none
+}
+
+// What is left of a number, a slot's bytes at most.
+fn left(number: usize, taken: usize) -> usize
+    ensures { λ r. ⌜ r ≡ min number roomSize - taken ⌝ }
+{
+    let number = least(number, Texts::ROOM);
+    number - least(number, taken)
 }
 
 // The blocks kept, newest first, by their lengths and times; the first `count` count.
@@ -108,7 +156,7 @@ impl Kept {
         let shifted = shift(lens, ats, len, clock);
         let lens = shifted.lens;
         let ats = shifted.ats;
-        let count = numbers::least(self.count, Packet::LEVEL - 1) + 1;
+        let count = least(self.count, Packet::LEVEL - 1) + 1;
         Kept { lens, ats, count }
     }
 }

@@ -1,4 +1,4 @@
-// The sender for C and Rust callers, who lend its record and its texts by pointers. All zeros are a sender too: it refuses
+// The sender for C and Rust callers, who lend its record, its texts and its log by pointers. All zeros are a sender too: it refuses
 // every call.
 ghost use Rattle.sender_boundary.specs.Calls.{settingsFrom, OpensIn, OffersIn, ClocksIn};
 use sender::Sender;
@@ -10,18 +10,20 @@ pub extern "C" fn stewpigeon_sender_open_in(
     texts: &mut [u8; Sender::TEXTS],
     level: usize,
     buffering: u64,
+    rate: usize,
     t140: u8,
     red: u8,
     sequence: u16,
     timestamp: u32,
     source: u32,
 ) -> u8
-    ensures { λ r. ⌜ OpensIn (settingsFrom level buffering t140 red sequence timestamp source) r (now (sender .exit)) (now (texts .exit)) ⌝ }
+    ensures { λ r. ⌜ OpensIn (settingsFrom level buffering rate t140 red sequence timestamp source) r (now (sender .exit)) (now (texts .exit)) ⌝ }
 {
     let opened = sender_boundary::open(
         texts,
         level,
         buffering,
+        rate,
         t140,
         red,
         sequence,
@@ -51,12 +53,13 @@ pub extern "C" fn stewpigeon_sender_offer_in(
 #[no_mangle]
 pub extern "C" fn stewpigeon_sender_clock_in(
     sender: &mut Sender,
-    texts: &[u8; Sender::TEXTS],
+    texts: &mut [u8; Sender::TEXTS],
+    log: &mut [u64; Sender::LOG],
     clock: u64,
     packet: &mut [u8],
 ) -> i64
-    ensures { λ r. ⌜ ClocksIn (now (sender .entry)) (now (texts .entry)) clock (now (packet .entry)) r (now (sender .exit)) (now (packet .exit)) ⌝ }
+    ensures { λ r. ⌜ ClocksIn (now (sender .entry)) (now (texts .entry)) (now (log .entry)) clock (now (packet .entry)) r (now (sender .exit)) (now (texts .exit)) (now (log .exit)) (now (packet .exit)) ⌝ }
 {
-    let answer = sender.clock(clock, texts, packet);
+    let answer = sender.clock(clock, texts, log, packet);
     sender_boundary::code_of(answer)
 }

@@ -3,7 +3,7 @@ use Prim.Native.Nat.{ℕ, zero, suc, _-_}
 use mathlib.Core.Path.{_≡_, refl, ap}
 use mathlib.Core.List.{[], _∷_}
 use native.Mathlib.Omega.{arith}
-use lib.ListN.{replicate}
+use lib.ListN.{length, replicate, length-replicate}
 use Rattle.text.specs.declared.Owed.{Owed}
 use Rattle.text_spec.specs.Utf8.{_to_, tail}
 use Rattle.text.specs.Owed.{ranges, owes}
@@ -21,3 +21,10 @@ owes-some o h = go (o .tails) h
 pub tails-only : (n : ℕ) → ranges n tail ≡ replicate n tail
 tails-only zero = refl
 tails-only (suc n) = refl
+
+pub owes-tails : (o : Owed) → length (owes o) ≡ o .tails
+owes-tails o = go (o .tails)
+  where
+    go : (n : ℕ) → length (ranges n (o .low to o .high)) ≡ n
+    go zero = refl
+    go (suc n) = ap suc (length-replicate n tail)

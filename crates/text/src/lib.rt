@@ -1,8 +1,10 @@
 // UTF-8, a byte at a time (RFC 3629, section 4).
 ghost use mathlib.Core.Path.{_≡_};
 ghost use mathlib.Core.List.{[]};
+ghost use lib.ListN.{length};
 ghost use Prim.Native.Nat.{_≤_};
 ghost use Rattle.text_spec.specs.Utf8.{owedAfter, begins, textOf};
+ghost use Rattle.text_spec.specs.Front.{front};
 ghost use Rattle.text.specs.Owed.{owes, walked};
 ghost use Rattle.text.specs.Answer.{textAnswered};
 
@@ -110,4 +112,30 @@ pub fn text_of(bytes: &[u8]) -> Text
         return Text::Stops(at);
     }
     Text::Characters(characters)
+}
+
+// How many bytes the first characters have, so many at most. They end at a byte that begins no letter; a letter that the
+// end cuts counts with what there is of it.
+pub fn front(bytes: &[u8], most: usize) -> usize
+    ensures { λ r. ⌜ (r ≡ length (front most (now (bytes .entry)))) × (r ≤ length (now (bytes .entry))) ⌝ }
+{
+    let mut left = most;
+    let mut at: usize = 0;
+    while at < bytes.len() {
+        if left == 0 {
+            return at;
+        }
+        match lead(bytes[at]) {
+            Walked::Next(owed) => {
+                let letter = 1 + owed.tails as usize;
+                if bytes.len() - at < letter {
+                    return bytes.len();
+                }
+                at += letter;
+            }
+            Walked::Bad => return at,
+        }
+        left -= 1;
+    }
+    at
 }

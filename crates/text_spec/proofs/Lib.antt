@@ -3,3 +3,5 @@ pub mod Table
 pub mod Walks
 pub mod WellFormed
 pub mod TextJoin
+pub mod FrontLaws
+pub mod FrontWalk

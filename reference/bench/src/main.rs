@@ -15,7 +15,8 @@ use compare::say;
 use contest::ROUNDS;
 use packets::Packets;
 use schedule::Schedule;
-use stewpigeon::Sender;
+use sending::Line;
+use stewpigeon::{Sender, Settings};
 
 const SEED: u64 = 4103;
 const PACKETS: usize = 1_000_000;
@@ -38,7 +39,14 @@ fn times() {
     stepping::steps(&Packets::line(SEED, PACKETS));
     for level in [2, Sender::LEVEL] {
         for pace in [OFTEN, SELDOM] {
-            sending::line(level, &schedule(pace));
+            for rate in [Settings::HIGHEST_RATE, Settings::RATE] {
+                let schedule = &schedule(pace);
+                sending::times(&Line {
+                    level,
+                    rate,
+                    schedule,
+                });
+            }
         }
     }
     reading::texts();
@@ -48,7 +56,12 @@ fn times() {
 fn calls(kind: &str, level: &str, times: &str) -> Option<usize> {
     let level = level.parse().ok().filter(|level| *level <= Sender::LEVEL)?;
     let times = times.parse().ok()?;
-    sending::repeated(kind, level, &schedule(OFTEN), times)
+    let line = Line {
+        level,
+        rate: Settings::HIGHEST_RATE,
+        schedule: &schedule(OFTEN),
+    };
+    sending::repeated(kind, &line, times)
 }
 
 fn main() -> ExitCode {

@@ -11,10 +11,11 @@ use stewpigeon::lent;
 
 const SPACE: usize = 829;
 
-fn settings(level: usize) -> Settings {
+fn settings(level: usize, rate: usize) -> Settings {
     Settings {
         level,
         buffering: 300,
+        rate,
         t140: 98,
         red: 100,
         sequence: 65_000,
@@ -23,26 +24,44 @@ fn settings(level: usize) -> Settings {
     }
 }
 
-/// The proved sender: its record, and the texts that are lent with it.
+/// The proved sender: its record, and the texts and the log that are lent with
+/// it.
 #[derive(Clone)]
 struct Proved {
     record: lent::Sender,
     texts: lent::Texts,
+    log: Box<lent::Log>,
 }
 
-fn proved_open(level: usize) -> Proved {
-    let settings = library_settings(&settings(level));
+impl Proved {
+    /// Takes back a call. Of the log only what it wrote: all of it would drive
+    /// the rest out of the cache.
+    fn take_back(&mut self, before: &Self) {
+        let slots = 10 * before.record.settings.rate;
+        let mut slot = before.record.pace.next;
+        while slot != self.record.pace.next {
+            self.log[slot] = before.log[slot];
+            slot = (slot + 1) % slots;
+        }
+        self.record = before.record;
+        self.texts = before.texts;
+    }
+}
+
+fn proved_open(line: &Line<'_>) -> Proved {
+    let settings = library_settings(&settings(line.level, line.rate));
     let mut sender = Proved {
         record: lent::Sender::ZERO,
         texts: [0; 800],
+        log: Box::new([0; 1000]),
     };
     let number = lent::sender_open(&mut sender.record, &mut sender.texts, settings);
     assert_eq!(number, 0);
     sender
 }
 
-fn independent_open(level: usize) -> Sender {
-    Sender::open(settings(level)).expect("good settings")
+fn independent_open(line: &Line<'_>) -> Sender {
+    Sender::open(settings(line.level, line.rate)).expect("good settings")
 }
 
 /// The figure of an answer: the length, and parts of the packet written.
@@ -59,13 +78,13 @@ fn figure(answer: i64, space: &[u8]) -> u64 {
 
 /// A call of the proved sender, and its figure.
 fn proved_call(sender: &mut Proved, event: &Event, space: &mut [u8]) -> u64 {
-    let Proved { record, texts } = sender;
+    let Proved { record, texts, log } = sender;
     match event {
         Event::Offer(clock, text) => {
             u64::from(lent::sender_offer(record, texts, *clock, text.as_bytes()))
         }
         Event::Clock(clock) => {
-            let answer = lent::sender_clock(record, texts, *clock, space);
+            let answer = lent::sender_clock(record, texts, &mut **log, *clock, space);
             figure(answer, space)
         }
     }
@@ -99,10 +118,11 @@ fn independent_call(sender: &mut Sender, event: &Event, space: &mut [u8]) -> u64
     }
 }
 
-/// A typed line at a repeat level.
-struct Line<'a> {
-    level: usize,
-    schedule: &'a Schedule,
+/// A typed line at a repeat level and a rate.
+pub struct Line<'a> {
+    pub level: usize,
+    pub rate: usize,
+    pub schedule: &'a Schedule,
 }
 
 /// All calls of a line.
@@ -116,11 +136,11 @@ fn all<S>(line: &Line<'_>, mut sender: S, call: impl Fn(&mut S, &Event, &mut [u8
 }
 
 fn proved(line: &Line<'_>) -> u64 {
-    all(line, proved_open(line.level), proved_call)
+    all(line, proved_open(line), proved_call)
 }
 
 fn independent(line: &Line<'_>) -> u64 {
-    all(line, independent_open(line.level), independent_call)
+    all(line, independent_open(line), independent_call)
 }
 
 /// Calls of one kind, and the senders as they are before them.
@@ -140,8 +160,8 @@ const TIMES: usize = 500;
 /// and before quiet ones.
 fn prepare<'a>(line: &Line<'a>) -> [Prepared<'a>; 3] {
     let mut prepared = <[Prepared; 3]>::default();
-    let mut ours = proved_open(line.level);
-    let mut theirs = independent_open(line.level);
+    let mut ours = proved_open(line);
+    let mut theirs = independent_open(line);
     let mut space = [0; SPACE];
     for event in &line.schedule.events {
         let before = (ours.clone(), theirs.clone());
@@ -162,35 +182,42 @@ fn prepare<'a>(line: &Line<'a>) -> [Prepared<'a>; 3] {
     prepared
 }
 
-/// Times these calls alone, so many times over, each on a fresh copy of its
-/// sender.
+/// Times these calls alone, so many times over, each on a copy of its sender
+/// that is then taken back.
 fn alone<S: Clone>(
     times: usize,
     senders: &[S],
     events: &[&Event],
     call: impl Fn(&mut S, &Event, &mut [u8]) -> u64,
+    take_back: impl Fn(&mut S, &S),
 ) -> Run {
     let mut space = [0; SPACE];
     let mut sum = 0;
     let mut time = Duration::ZERO;
+    let mut copies = senders.to_vec();
     for _ in 0..times {
-        let mut copies = senders.to_vec();
         let start = Instant::now();
         for (sender, event) in copies.iter_mut().zip(events) {
             sum = add(sum, call(sender, event, &mut space));
         }
         time += start.elapsed();
+        for (copy, sender) in copies.iter_mut().zip(senders) {
+            take_back(copy, sender);
+        }
     }
     Run { time, sum }
 }
 
 fn proved_alone(times: usize, prepared: &Prepared<'_>) -> Run {
-    alone(times, &prepared.proved, &prepared.events, proved_call)
+    let senders = &prepared.proved;
+    let events = &prepared.events;
+    alone(times, senders, events, proved_call, Proved::take_back)
 }
 
 fn independent_alone(times: usize, prepared: &Prepared<'_>) -> Run {
     let senders = &prepared.independent;
-    alone(times, senders, &prepared.events, independent_call)
+    let events = &prepared.events;
+    alone(times, senders, events, independent_call, Sender::clone_from)
 }
 
 fn calls_alone(level: usize, what: &str, name: &str, prepared: &Prepared<'_>) {
@@ -204,15 +231,15 @@ fn calls_alone(level: usize, what: &str, name: &str, prepared: &Prepared<'_>) {
     );
 }
 
-/// A typed line with clock calls at this pace, and the calls of each kind
-/// alone.
-pub fn line(level: usize, schedule: &Schedule) {
-    let line = Line { level, schedule };
-    let [offers, sent, quiet] = prepare(&line);
+/// A typed line with clock calls at its pace. Where these are frequent and the
+/// rate is the highest, also the calls of each kind alone.
+pub fn times(line: &Line<'_>) {
+    let Line { level, rate, .. } = *line;
+    let pace = line.schedule.pace;
+    let [offers, sent, quiet] = prepare(line);
     say!(
-        "SENDING: a typed line, level {level}, buffering 300 ms, a clock call every {} ms:\n\
-         {} offers, {} clock calls that send, {} quiet ones\n",
-        schedule.pace,
+        "SENDING: a typed line, level {level}, buffering 300 ms, rate {rate}, a clock call every\n\
+         {pace} ms: {} offers, {} clock calls that send, {} quiet ones\n",
         offers.count,
         sent.count,
         quiet.count
@@ -220,10 +247,10 @@ pub fn line(level: usize, schedule: &Schedule) {
     contest(
         sent.count + quiet.count,
         "clock call, offers included",
-        ("stewpigeon, proved", &|| timed(proved, &line)),
-        ("independent Rust", &|| timed(independent, &line)),
+        ("stewpigeon, proved", &|| timed(proved, line)),
+        ("independent Rust", &|| timed(independent, line)),
     );
-    if schedule.pace == Schedule::OFTEN {
+    if pace == Schedule::OFTEN && rate == lent::Settings::HIGHEST_RATE {
         let [offer, clock] =
             ["offer", "clock"].map(|call| format!("stewpigeon_sender_{call}_in, proved"));
         calls_alone(level, "sending clock calls", &clock, &sent);
@@ -235,8 +262,8 @@ pub fn line(level: usize, schedule: &Schedule) {
 /// Calls of one kind, so many times over by both programs, for whoever counts
 /// their instructions. Answers how many calls each has made in a turn; none
 /// where there is no such kind.
-pub fn repeated(kind: &str, level: usize, schedule: &Schedule, times: usize) -> Option<usize> {
-    let [offers, sent, quiet] = prepare(&Line { level, schedule });
+pub fn repeated(kind: &str, line: &Line<'_>, times: usize) -> Option<usize> {
+    let [offers, sent, quiet] = prepare(line);
     let prepared = match kind {
         "offers" => offers,
         "sending" => sent,

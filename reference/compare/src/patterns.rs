@@ -25,20 +25,17 @@ pub struct Lent {
 impl Lent {
     /// These bytes among random ones.
     pub fn new(random: &mut Random, bytes: &[u8]) -> Lent {
-        let start = random.below(9);
-        let mut all = random.bytes(start);
-        all.extend(bytes);
-        let place = start..all.len();
-        let behind = random.within(1, 16);
-        all.extend(random.bytes(behind));
-        Lent { all, place }
+        let mut lent = Lent::any(random, bytes.len());
+        lent.bytes_mut().copy_from_slice(bytes);
+        lent
     }
 
     /// So many random bytes.
     pub fn any(random: &mut Random, length: usize) -> Lent {
         let start = random.below(9);
         let behind = random.within(1, 16);
-        let all = random.bytes(start + length + behind);
+        let mut all = vec![0; start + length + behind];
+        random.fill(&mut all);
         let place = start..start + length;
         Lent { all, place }
     }

@@ -5,12 +5,13 @@ use std::fmt::{self, Debug, Formatter};
 /// How many bytes may wait, and so the longest block written.
 pub const ROOM: usize = 160;
 
-/// At most 160 bytes with a time: when the first of them was offered while
-/// they wait, when they were sent afterwards.
+/// At most 160 bytes, in whole characters, with a time: when the first of them
+/// was offered while they wait, when they were sent afterwards.
 #[derive(Clone)]
 pub struct Block {
     pub clock: u64,
     length: usize,
+    characters: usize,
     bytes: [u8; ROOM],
 }
 
@@ -18,6 +19,7 @@ impl Block {
     pub(crate) const EMPTY: Block = Block {
         clock: 0,
         length: 0,
+        characters: 0,
         bytes: [0; ROOM],
     };
 
@@ -36,18 +38,39 @@ impl Block {
         self.length == 0
     }
 
-    /// Adds text, for which there must be room.
     #[inline]
-    pub(crate) fn join(&mut self, text: &[u8]) {
-        self.bytes[self.length..][..text.len()].copy_from_slice(text);
-        self.length += text.len();
+    pub fn characters(&self) -> usize {
+        self.characters
     }
 
-    /// Back to clock 0 without text.
+    /// Adds text of so many characters, for which there must be room.
     #[inline]
-    pub(crate) fn clear(&mut self) {
-        self.clock = 0;
-        self.length = 0;
+    pub(crate) fn join(&mut self, text: &[u8], characters: usize) {
+        self.bytes[self.length..][..text.len()].copy_from_slice(text);
+        self.length += text.len();
+        self.characters += characters;
+    }
+
+    /// How many bytes the first so many characters have.
+    #[inline]
+    pub(crate) fn front(&self, characters: usize) -> usize {
+        if characters >= self.characters {
+            return self.length;
+        }
+        let mut starts = (0..self.length).filter(|place| self.bytes[*place] & 0xc0 != 0x80);
+        starts.nth(characters).unwrap_or(self.length)
+    }
+
+    /// Keeps its first so many bytes and characters; the rest is all that the
+    /// other block has then.
+    #[inline]
+    pub(crate) fn split_into(&mut self, length: usize, characters: usize, rest: &mut Block) {
+        let behind = &self.bytes[length..self.length];
+        rest.bytes[..behind.len()].copy_from_slice(behind);
+        rest.length = behind.len();
+        rest.characters = self.characters - characters;
+        self.length = length;
+        self.characters = characters;
     }
 }
 

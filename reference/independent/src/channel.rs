@@ -37,7 +37,8 @@ pub struct Delivery {
     pub state: State,
 }
 
-/// Good settings with any numbers, their bounds being likely.
+/// Good settings with any numbers, their bounds being likely. Most rates hold
+/// little back.
 pub fn settings(random: &mut Random, level: usize) -> Settings {
     let t140 = random.within(96, 127) as u8;
     let mut red = t140;
@@ -45,11 +46,13 @@ pub fn settings(random: &mut Random, level: usize) -> Settings {
         red = random.within(96, 127) as u8;
     }
     let any = random.within(1, 500) as u64;
+    let rate = random.within(1, 100);
     let sequence = random.number() as u16;
     let timestamp = random.number() as u32;
     Settings {
         level,
         buffering: random.pick(&[1, 2, 300, 300, 499, 500, any]),
+        rate: random.pick(&[100, 100, 100, 100, 30, 30, rate, 2, 1]),
         t140,
         red,
         sequence: random.pick(&[0, 65_500, 65_530, 65_535, sequence]),
@@ -114,7 +117,7 @@ fn clock_call(random: &mut Random, clock: u64) -> Call {
 pub fn send(settings: Settings, calls: &[Call]) -> Line {
     let mut sender = Sender::open(settings).expect("good settings");
     let mut line = Line::default();
-    let mut waiting = vec![];
+    let mut waiting: Vec<u8> = vec![];
     for call in calls {
         match call {
             Call::Offer { clock, text } => {
@@ -127,9 +130,10 @@ pub fn send(settings: Settings, calls: &[Call]) -> Line {
                 if let Clocked::Sent(length) = sender.clock(*clock, &mut space) {
                     space.truncate(length);
                     line.packets.push(space);
+                    let taken = waiting.len() - sender.waiting().len();
                     line.sent.push(Sent {
                         clock: *clock,
-                        block: std::mem::take(&mut waiting),
+                        block: waiting.drain(..taken).collect(),
                     });
                 }
             }

@@ -38,6 +38,14 @@ impl Random {
         (0..length).map(|_| self.byte()).collect()
     }
 
+    /// Other bytes than `bytes` gives, and faster.
+    pub fn fill(&mut self, bytes: &mut [u8]) {
+        for chunk in bytes.chunks_mut(8) {
+            let number = self.number().to_le_bytes();
+            chunk.copy_from_slice(&number[..chunk.len()]);
+        }
+    }
+
     pub fn pick<T: Copy>(&mut self, items: &[T]) -> T {
         items[self.below(items.len())]
     }

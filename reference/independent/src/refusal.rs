@@ -16,6 +16,8 @@ pub const OFFERED_UTF8: u8 = 6;
 pub const EMPTY: u8 = 7;
 /// Lent packet space shorter than the packet due.
 pub const SPACE: u8 = 8;
+/// Rate 0 or above 100.
+pub const RATE: u8 = 9;
 /// Packet under 12 bytes.
 pub const SHORT: u8 = 10;
 /// Packet over 1,472 bytes.

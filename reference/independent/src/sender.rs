@@ -1,46 +1,20 @@
 //! The sender: waiting text, the due rule and what is kept of packets sent.
-//! No call allocates.
+//! No call but the opening allocates.
 
 mod packet;
+mod rate;
+mod settings;
 
 use crate::block::{Block, ROOM};
-use crate::{payload_types, refusal, text, MOST_OLDER};
+use crate::{refusal, text, MOST_OLDER};
+use rate::Spent;
+pub use settings::Settings;
 
 /// The greatest age in ms at which a block is still repeated.
 pub const OLDEST: u64 = 16_383;
 
-const LONGEST_BUFFERING: u64 = 500;
-
 /// The waiting room and the last blocks sent.
 const KEPT: usize = 1 + MOST_OLDER;
-
-#[derive(Clone, Copy, Debug, PartialEq, Eq)]
-pub struct Settings {
-    /// How many older blocks each packet repeats.
-    pub level: usize,
-    /// The buffering time in ms.
-    pub buffering: u64,
-    pub t140: u8,
-    pub red: u8,
-    /// The first packet's sequence number.
-    pub sequence: u16,
-    /// The timestamp of clock 0.
-    pub timestamp: u32,
-    pub source: u32,
-}
-
-impl Settings {
-    #[inline]
-    fn check(&self) -> Result<(), u8> {
-        if self.level > MOST_OLDER {
-            return Err(refusal::LEVEL);
-        }
-        if self.buffering == 0 || self.buffering > LONGEST_BUFFERING {
-            return Err(refusal::BUFFERING);
-        }
-        payload_types(self.t140, self.red)
-    }
-}
 
 #[derive(Clone, Debug)]
 pub struct Sender {
@@ -53,10 +27,23 @@ pub struct Sender {
     room: usize,
     /// How many blocks are kept that were sent.
     count: usize,
+    spent: Spent,
     /// The next packet's sequence number.
     sequence: u16,
     last_packet: Option<u64>,
     last_text: Option<u64>,
+}
+
+/// A packet that is due.
+#[derive(Clone, Copy)]
+struct Draft {
+    clock: u64,
+    /// How many blocks it repeats.
+    run: usize,
+    /// How many bytes of the text that waits it takes.
+    front: usize,
+    /// And how many characters these are.
+    characters: usize,
 }
 
 /// What comes of a clock call.
@@ -79,6 +66,7 @@ impl Sender {
         Self::with(Settings {
             level: 0,
             buffering: 0,
+            rate: 0,
             t140: 0,
             red: 0,
             sequence: 0,
@@ -94,6 +82,7 @@ impl Sender {
             kept: [Block::EMPTY; KEPT],
             room: 0,
             count: 0,
+            spent: Spent::new(settings.rate),
             sequence: settings.sequence,
             last_packet: None,
             last_text: None,
@@ -111,8 +100,8 @@ impl Sender {
         self.latest
     }
 
-    /// The text that waits and when its first byte was offered; clock 0 when
-    /// nothing waits.
+    /// The text that waits and when its first byte was offered, or left
+    /// behind by a packet; clock 0 when nothing waits.
     #[inline]
     pub fn waiting(&self) -> &Block {
         &self.kept[self.room]
@@ -128,6 +117,13 @@ impl Sender {
     #[inline]
     pub fn blocks(&self) -> impl Iterator<Item = &Block> {
         (1..=self.count).map(|back| self.back(back))
+    }
+
+    /// When packets with text were sent and how many characters each had,
+    /// oldest first, in the ten seconds before the last packet.
+    #[inline]
+    pub fn spent(&self) -> impl Iterator<Item = (u64, usize)> + '_ {
+        self.spent.packets()
     }
 
     /// When the last packet was sent.
@@ -152,9 +148,9 @@ impl Sender {
         if offered.is_empty() {
             return Err(refusal::EMPTY);
         }
-        if text(offered).is_err() {
+        let Ok(characters) = text(offered) else {
             return Err(refusal::OFFERED_UTF8);
-        }
+        };
         let waiting = &mut self.kept[self.room];
         if offered.len() > ROOM - waiting.len() {
             return Err(refusal::ROOM);
@@ -162,7 +158,7 @@ impl Sender {
         if waiting.is_empty() {
             waiting.clock = clock;
         }
-        waiting.join(offered);
+        waiting.join(offered, characters);
         self.latest = clock;
         Ok(())
     }
@@ -170,23 +166,37 @@ impl Sender {
     /// Writes the packet due at `clock`, if one is.
     #[inline]
     pub fn clock(&mut self, clock: u64, space: &mut [u8]) -> Clocked {
-        if let Err(number) = self.settings.check() {
-            return Clocked::Refused(number);
-        }
-        if clock < self.latest {
-            return Clocked::Refused(refusal::CLOCK);
-        }
-        let Some(run) = self.due(clock) else {
-            self.latest = clock;
-            return Clocked::Quiet;
+        let draft = match self.draft(clock) {
+            Err(number) => return Clocked::Refused(number),
+            Ok(None) => {
+                self.latest = clock;
+                return Clocked::Quiet;
+            }
+            Ok(Some(draft)) => draft,
         };
-        let length = self.length(run);
+        let length = self.length(&draft);
         let Some(packet) = space.get_mut(..length) else {
             return Clocked::Refused(refusal::SPACE);
         };
-        self.write(clock, run, packet);
-        self.sent(clock);
+        self.write(&draft, packet);
+        self.sent(&draft);
         Clocked::Sent(length)
+    }
+
+    /// How long the packet is that is due at `clock`, if one is.
+    pub fn length_due(&self, clock: u64) -> Option<usize> {
+        let draft = self.draft(clock).ok().flatten();
+        draft.map(|draft| self.length(&draft))
+    }
+
+    /// The packet due at `clock`, if one is, or the refusal's number.
+    #[inline]
+    fn draft(&self, clock: u64) -> Result<Option<Draft>, u8> {
+        self.settings.check()?;
+        if clock < self.latest {
+            return Err(refusal::CLOCK);
+        }
+        Ok(self.due(clock))
     }
 
     /// The block sent so many packets before the next one.
@@ -211,9 +221,20 @@ impl Sender {
         (1..=run).rev().map(|back| self.back(back))
     }
 
-    /// How many blocks the packet due at `clock` repeats, if one is due.
+    /// How much of the text that waits may be sent at `clock`, in whole
+    /// characters: the bytes and the characters.
     #[inline]
-    fn due(&self, clock: u64) -> Option<usize> {
+    fn front(&self, clock: u64) -> (usize, usize) {
+        let waiting = self.waiting();
+        if waiting.is_empty() {
+            return (0, 0);
+        }
+        let characters = waiting.characters().min(self.spent.free(clock));
+        (waiting.front(characters), characters)
+    }
+
+    #[inline]
+    fn due(&self, clock: u64) -> Option<Draft> {
         let rested = match self.last_packet {
             None => true,
             Some(last) => clock - last >= self.settings.buffering,
@@ -222,22 +243,41 @@ impl Sender {
             return None;
         }
         let run = self.run(clock);
-        let text = !self.waiting().is_empty() || self.repeats(run).any(|block| !block.is_empty());
-        text.then_some(run)
+        let (front, characters) = self.front(clock);
+        let text = front > 0 || self.repeats(run).any(|block| !block.is_empty());
+        text.then_some(Draft {
+            clock,
+            run,
+            front,
+            characters,
+        })
     }
 
-    /// The waiting room has gone out as a primary.
-    fn sent(&mut self, clock: u64) {
-        let primary = &mut self.kept[self.room];
+    /// A front of the waiting room has gone out as a primary. What it left
+    /// behind counts as offered now; what was held back whole does not.
+    fn sent(&mut self, draft: &Draft) {
+        let clock = draft.clock;
+        let next = (self.room + 1) % KEPT;
+        let [primary, rest] = self
+            .kept
+            .get_disjoint_mut([self.room, next])
+            .expect("two of several");
+        let offered = primary.clock;
+        primary.split_into(draft.front, draft.characters, rest);
         primary.clock = clock;
         if !primary.is_empty() {
             self.last_text = Some(clock);
         }
+        rest.clock = match (rest.is_empty(), primary.is_empty()) {
+            (true, _) => 0,
+            (false, true) => offered,
+            (false, false) => clock,
+        };
         self.latest = clock;
         self.last_packet = Some(clock);
+        self.spent.spend(clock, draft.characters);
         self.sequence = self.sequence.wrapping_add(1);
-        self.room = (self.room + 1) % KEPT;
-        self.kept[self.room].clear();
+        self.room = next;
         self.count = MOST_OLDER.min(self.count + 1);
     }
 }
@@ -249,6 +289,7 @@ impl PartialEq for Sender {
             && self.latest == other.latest
             && self.waiting() == other.waiting()
             && self.blocks().eq(other.blocks())
+            && self.spent == other.spent
             && self.sequence == other.sequence
             && self.last_packet == other.last_packet
             && self.last_text == other.last_text

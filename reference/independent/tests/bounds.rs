@@ -7,6 +7,7 @@ fn settings(level: usize, buffering: u64) -> Settings {
     Settings {
         level,
         buffering,
+        rate: 30,
         t140: 98,
         red: 100,
         sequence: 65_533,
@@ -65,21 +66,27 @@ fn across_the_whole_clock() {
 
 #[test]
 fn more_than_65_536_packets() {
+    // So many ms apart, none is held back.
+    const STEP: u64 = 11;
     for level in 0..=4 {
-        let mut sender = Sender::open(settings(level, 1)).unwrap();
+        let settings = Settings {
+            rate: 100,
+            ..settings(level, STEP)
+        };
+        let mut sender = Sender::open(settings).unwrap();
         for k in 0..70_000_u64 {
             let letter = [b'a' + (k % 26) as u8];
-            sender.offer(k, &letter).unwrap();
-            let (_, packet) = clock(&mut sender, k);
+            sender.offer(STEP * k, &letter).unwrap();
+            let (_, packet) = clock(&mut sender, STEP * k);
             let packet = read(Some(7), 98, 100, &packet).unwrap();
             assert_eq!(u64::from(packet.sequence), (65_533 + k) % 65_536);
-            let timestamp = (u64::from(u32::MAX) - 100 + k) % (1 << 32);
+            let timestamp = (u64::from(u32::MAX) - 100 + STEP * k) % (1 << 32);
             assert_eq!(u64::from(packet.timestamp), timestamp);
             assert_eq!(packet.older().len() as u64, k.min(level as u64));
             for (older, back) in packet.older().iter().rev().zip(1..) {
                 let letter = [b'a' + ((k - back) % 26) as u8];
                 assert_eq!(packet.block(older), letter);
-                assert_eq!(u64::from(older.offset), back);
+                assert_eq!(u64::from(older.offset), STEP * back);
             }
             assert_eq!(packet.primary(), letter);
             assert_eq!(packet.marker, k == 0);

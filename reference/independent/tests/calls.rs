@@ -1,5 +1,8 @@
 //! Random lists of calls on a sender, held against the sender's section of
-//! the paper, worked out each time from all that was accepted and sent.
+//! the paper and the rate, worked out each time from all that was accepted
+//! and sent.
+
+use std::collections::BTreeMap;
 
 use independent::channel::{calls, settings, Call};
 use independent::random::Random;
@@ -7,25 +10,46 @@ use independent::read;
 use independent::record::{run, Sent};
 use independent::sender::{Clocked, Sender, Settings};
 
+/// An accepted offer.
+struct Offered {
+    clock: u64,
+    text: Vec<u8>,
+    /// How many packets were sent before it.
+    packets: usize,
+}
+
 /// All that was accepted and sent since the opening.
 struct Ledger {
     settings: Settings,
     latest: u64,
-    /// The accepted offers: clock, text, and how many packets came before.
-    offers: Vec<(u64, Vec<u8>, usize)>,
+    offers: Vec<Offered>,
     sent: Vec<Sent>,
 }
 
+fn characters(text: &[u8]) -> usize {
+    std::str::from_utf8(text).unwrap().chars().count()
+}
+
 impl Ledger {
-    fn waiting(&self) -> Vec<&(u64, Vec<u8>, usize)> {
-        let packets = self.sent.len();
-        let offers = self.offers.iter();
-        offers.filter(|offer| offer.2 == packets).collect()
+    /// What was typed and is in no packet yet.
+    fn waiting(&self) -> Vec<u8> {
+        let typed = self.offers.iter().flat_map(|offer| &offer.text);
+        let sent: usize = self.sent.iter().map(|sent| sent.block.len()).sum();
+        typed.skip(sent).copied().collect()
     }
 
-    fn waiting_text(&self) -> Vec<u8> {
-        let waiting = self.waiting();
-        waiting.iter().flat_map(|offer| offer.1.clone()).collect()
+    /// When the first byte that waits was offered. Where a packet with text
+    /// came since then, it was left behind, and counts as offered with it.
+    fn since(&self) -> Option<u64> {
+        let sent: usize = self.sent.iter().map(|sent| sent.block.len()).sum();
+        let mut typed = 0;
+        let first = self.offers.iter().find(|offer| {
+            typed += offer.text.len();
+            typed > sent
+        })?;
+        let mut since = self.sent[first.packets..].iter();
+        let left = since.rfind(|sent| !sent.block.is_empty());
+        Some(left.map_or(first.clock, |sent| sent.clock))
     }
 
     fn offer(&mut self, clock: u64, text: &[u8]) -> Result<(), u8> {
@@ -38,13 +62,47 @@ impl Ledger {
         if std::str::from_utf8(text).is_err() {
             return Err(6);
         }
-        if self.waiting_text().len() + text.len() > 160 {
+        if self.waiting().len() + text.len() > 160 {
             return Err(4);
         }
         self.latest = clock;
-        let packets = self.sent.len();
-        self.offers.push((clock, text.to_vec(), packets));
+        self.offers.push(Offered {
+            clock,
+            text: text.to_vec(),
+            packets: self.sent.len(),
+        });
         Ok(())
+    }
+
+    /// The characters sent from `start` to 10,000 ms later, both included.
+    fn within(&self, start: u64) -> usize {
+        let end = start.saturating_add(10_000);
+        let sent = self.sent.iter();
+        let within = sent.filter(|sent| (start..=end).contains(&sent.clock));
+        within.map(|sent| characters(&sent.block)).sum()
+    }
+
+    fn limit(&self) -> usize {
+        10 * self.settings.rate
+    }
+
+    /// No 10,000 ms have more characters than the rate allows. The fullest
+    /// start with a packet.
+    fn check_rate(&self) {
+        for sent in &self.sent {
+            assert!(self.within(sent.clock) <= self.limit());
+        }
+    }
+
+    /// The longest front in whole characters that a packet at this clock can
+    /// take: every 10,000 ms that hold this clock keep to the rate.
+    fn front(&self, clock: u64) -> Vec<u8> {
+        let starts = self.sent.iter().map(|sent| sent.clock);
+        let around = starts.filter(|start| clock - start <= 10_000);
+        let fullest = around.map(|start| self.within(start)).max();
+        let free = self.limit() - fullest.unwrap_or(0);
+        let waiting = String::from_utf8(self.waiting()).unwrap();
+        waiting.chars().take(free).collect::<String>().into_bytes()
     }
 
     /// The older blocks of a packet at this clock, oldest first.
@@ -64,18 +122,18 @@ impl Ledger {
             .last()
             .is_none_or(|last| u128::from(clock) >= u128::from(last.clock) + buffering);
         let repeats = self.older(clock).iter().any(|sent| !sent.block.is_empty());
-        rested && (!self.waiting().is_empty() || repeats)
+        rested && (!self.front(clock).is_empty() || repeats)
     }
 
-    fn marker(&self) -> bool {
+    fn marker(&self, clock: u64) -> bool {
         if self.sent.is_empty() {
             return true;
         }
         let last = self.sent.iter().rfind(|sent| !sent.block.is_empty());
-        match (last, self.waiting().first()) {
-            (Some(last), Some((offered, ..))) => {
+        match (last, self.since()) {
+            (Some(last), Some(offered)) if !self.front(clock).is_empty() => {
                 let limit = u128::from(last.clock) + u128::from(self.settings.buffering);
-                u128::from(*offered) > limit
+                u128::from(offered) > limit
             }
             _ => false,
         }
@@ -88,7 +146,7 @@ impl Ledger {
             _ => 4 * older.len() + 1,
         };
         let text: usize = older.iter().map(|sent| sent.block.len()).sum();
-        12 + headers + text + self.waiting_text().len()
+        12 + headers + text + self.front(clock).len()
     }
 
     /// Reads the packet written at this clock and holds it against the rules.
@@ -106,28 +164,28 @@ impl Ledger {
         let timestamp = (u128::from(settings.timestamp) + u128::from(clock)) % (1 << 32);
         assert_eq!(u64::from(packet.sequence), sequence);
         assert_eq!(u128::from(packet.timestamp), timestamp);
-        assert_eq!(packet.marker, self.marker());
+        assert_eq!(packet.marker, self.marker(clock));
         let older = self.older(clock);
         assert_eq!(packet.older().len(), older.len());
         for (read, sent) in packet.older().iter().zip(&older) {
             assert_eq!(u64::from(read.offset), clock - sent.clock);
             assert_eq!(packet.block(read), sent.block);
         }
-        assert_eq!(packet.primary(), self.waiting_text());
+        assert_eq!(packet.primary(), self.front(clock));
     }
 
     /// Holds what the sender says of itself against what was accepted and
     /// sent.
     fn check_state(&self, sender: &Sender) {
-        let since = self.waiting().first().map_or(0, |offer| offer.0);
         let sequence = self.settings.sequence.wrapping_add(self.sent.len() as u16);
         let text = self.sent.iter().rfind(|sent| !sent.block.is_empty());
         let last_four = self.sent.iter().rev().take(4);
         let last_four = last_four.map(|sent| (sent.clock, &sent.block[..]));
         assert_eq!(*sender.settings(), self.settings);
         assert_eq!(sender.latest(), self.latest);
-        assert_eq!(sender.waiting().text(), self.waiting_text());
-        assert_eq!(sender.waiting().clock, since);
+        assert_eq!(sender.waiting().text(), self.waiting());
+        assert_eq!(sender.waiting().characters(), characters(&self.waiting()));
+        assert_eq!(sender.waiting().clock, self.since().unwrap_or(0));
         assert_eq!(sender.sequence(), sequence);
         let blocks = sender.blocks().map(|block| (block.clock, block.text()));
         assert!(blocks.eq(last_four));
@@ -136,6 +194,11 @@ impl Ledger {
             self.sent.last().map(|last| last.clock)
         );
         assert_eq!(sender.last_text(), text.map(|last| last.clock));
+        let recent = self.sent.iter().filter(|sent| {
+            !sent.block.is_empty() && self.sent.last().unwrap().clock - sent.clock <= 10_000
+        });
+        let spent = recent.map(|sent| (sent.clock, characters(&sent.block)));
+        assert!(sender.spent().eq(spent));
     }
 
     fn clock(&mut self, clock: u64, space: usize) -> Clocked {
@@ -153,8 +216,11 @@ impl Ledger {
     }
 }
 
-/// How often each answer was met: by number, 0 accepted, 20 quiet, 21 sent.
-fn list(random: &mut Random, level: usize, met: &mut [usize; 22]) {
+/// How often each answer was met, and how text was held back.
+type Met = BTreeMap<String, usize>;
+
+fn list(random: &mut Random, level: usize, met: &mut Met) {
+    let mut meet = |what: &str| *met.entry(what.to_string()).or_default() += 1;
     let settings = settings(random, level);
     let mut sender = Sender::open(settings).unwrap();
     let mut ledger = Ledger {
@@ -166,50 +232,69 @@ fn list(random: &mut Random, level: usize, met: &mut [usize; 22]) {
     let count = random.within(1, 60);
     for call in calls(random, settings.buffering, count) {
         let before = sender.clone();
-        let (refused, kind) = match call {
+        let refused = match call {
             Call::Offer { clock, text } => {
                 let answer = sender.offer(clock, &text);
                 assert_eq!(answer, ledger.offer(clock, &text));
-                (answer.is_err(), answer.err().unwrap_or(0))
+                answer.err()
             }
             Call::Clock { clock, space } => {
                 let mut lent = random.bytes(space);
                 let untouched = lent.clone();
+                let (front, waiting) = (ledger.front(clock), ledger.waiting());
                 let answer = sender.clock(clock, &mut lent);
                 assert_eq!(answer, ledger.clock(clock, space));
-                let (written, kind) = match answer {
-                    Clocked::Refused(number) => (0, number),
-                    Clocked::Quiet => (0, 20),
-                    Clocked::Sent(length) => (length, 21),
-                };
-                assert_eq!(lent[written..], untouched[written..]);
-                if written > 0 {
-                    ledger.check(clock, &lent[..written]);
-                    let block = ledger.waiting_text();
+                let mut written = 0;
+                if let Clocked::Sent(length) = answer {
+                    ledger.check(clock, &lent[..length]);
+                    let block = front.clone();
                     ledger.sent.push(Sent { clock, block });
                     ledger.latest = clock;
+                    written = length;
                 }
-                (kind < 20, kind)
+                assert_eq!(lent[written..], untouched[written..]);
+                match answer {
+                    Clocked::Sent(_) if front == waiting => meet("sent all"),
+                    Clocked::Sent(_) if front.is_empty() => meet("sent none"),
+                    Clocked::Sent(_) => meet("sent a part"),
+                    Clocked::Quiet if front == waiting => meet("quiet"),
+                    Clocked::Quiet if front.is_empty() => meet("quiet, held back"),
+                    _ => {}
+                }
+                match answer {
+                    Clocked::Refused(number) => Some(number),
+                    _ => None,
+                }
             }
         };
-        if refused {
+        if let Some(number) = refused {
             assert_eq!(sender, before);
+            meet(&format!("refused {number}"));
         }
         ledger.check_state(&sender);
-        met[usize::from(kind)] += 1;
     }
+    ledger.check_rate();
 }
 
 #[test]
 fn random_lists_of_calls() {
-    let mut met = [0; 22];
+    let mut met = Met::new();
     for level in 0..=4 {
         for seed in 0..2000 {
             let mut random = Random::new(seed << 8 | level as u64);
             list(&mut random, level, &mut met);
         }
     }
-    for answer in [0, 4, 5, 6, 7, 8, 20, 21] {
-        assert!(met[answer] > 1000, "{answer} was met {} times", met[answer]);
+    for number in 4..=8 {
+        assert!(met[&format!("refused {number}")] > 1000, "{met:?}");
+    }
+    for (what, times) in [
+        ("sent all", 1000),
+        ("sent a part", 1000),
+        ("sent none", 100),
+        ("quiet", 1000),
+        ("quiet, held back", 1000),
+    ] {
+        assert!(met[what] > times, "{met:?}");
     }
 }

@@ -139,17 +139,18 @@ fn random_lines_of_another_makers_sender() {
 }
 
 /// A line of 150,000 packets, more than two rounds of the numbers, heard in
-/// jumps up to the window's ends.
+/// jumps up to the window's ends. So far apart, no text is held back.
 #[test]
 fn long_lines_to_the_ends_of_the_window() {
     for level in 0..=4 {
         let mut random = Random::new(level as u64);
         let settings = Settings {
             buffering: 1,
+            rate: 100,
             ..channel::settings(&mut random, level)
         };
         let mut calls = vec![];
-        for clock in 0..150_000 {
+        for clock in (0..150_000).map(|k| 11 * k) {
             let text = vec![b'a' + (clock % 26) as u8];
             calls.push(Call::Offer { clock, text });
             let space = 900;

@@ -6,6 +6,7 @@ use independent::{read, Packet};
 const USUAL: Settings = Settings {
     level: 2,
     buffering: 300,
+    rate: 30,
     t140: 98,
     red: 100,
     sequence: 65_535,
@@ -86,9 +87,10 @@ fn t12() {
 
 #[test]
 fn run_only_160_and_161_bytes_offered() {
-    let mut sender = open(2, 300);
+    let settings = Settings { rate: 100, ..USUAL };
+    let mut sender = Sender::open(settings).unwrap();
     assert_eq!(sender.offer(0, &[b'a'; 161]), Err(4));
-    assert_eq!(sender, open(2, 300));
+    assert_eq!(sender, Sender::open(settings).unwrap());
     assert_eq!(sender.offer(0, &[b'a'; 160]), Ok(()));
     assert_eq!(sender.offer(0, b"b"), Err(4));
     let packet = sent(&mut sender, 0).unwrap();

@@ -11,7 +11,7 @@ mod guarded;
 
 use crate::library;
 pub use crate::library::{
-    Block, Packet, Progress, Receiver, Sender, Settings, Step, TextAnswer, Texts,
+    Block, Log, Pace, Packet, Progress, Receiver, Sender, Settings, Step, TextAnswer, Texts,
 };
 pub use guarded::{Guarded, Lend, Record};
 
@@ -73,6 +73,7 @@ impl Sender {
         settings: Settings {
             level: 0,
             buffering: 0,
+            rate: 0,
             t140: 0,
             red: 0,
             sequence: 0,
@@ -82,10 +83,12 @@ impl Sender {
         clock: 0,
         room: 0,
         len: 0,
+        characters: 0,
         since: 0,
         lens: [0; 4],
         ats: [0; 4],
         count: 0,
+        pace: Pace { next: 0, used: 0 },
         progress: Progress {
             sent: 0,
             last: 0,
@@ -163,8 +166,8 @@ pub fn write_marks(count: usize, space: &mut [u8]) -> usize {
     unsafe { library::stewpigeon_write_marks(count, space.as_mut_ptr(), space.len()) }
 }
 
-/// Opens a sender in the lent record: 0, or 1, 2, 3 and a record of zeros.
-/// The texts are zeros afterwards.
+/// Opens a sender in the lent record: 0, or 1, 2, 3, 9 and a record of zeros.
+/// The texts are zeros afterwards. Its log may hold anything.
 #[inline]
 pub fn sender_open(
     sender: &mut impl Lend<Sender>,
@@ -178,6 +181,7 @@ pub fn sender_open(
             texts.place_mut(),
             settings.level,
             settings.buffering,
+            settings.rate,
             settings.t140,
             settings.red,
             settings.sequence,
@@ -210,20 +214,25 @@ pub fn sender_offer(
 }
 
 /// Writes the packet due: its length, 0 where none is due, or minus the
-/// refusal's number.
+/// refusal's number. Text that it leaves behind moves to the next slot of the
+/// texts, and its clock goes to a slot of the log for each of its characters.
+/// Without a packet both stay. Every clock call of a sender is lent the same
+/// log.
 #[inline]
 pub fn sender_clock(
     sender: &mut impl Lend<Sender>,
-    texts: &impl Lend<Texts>,
+    texts: &mut impl Lend<Texts>,
+    log: &mut impl Lend<Log>,
     clock: u64,
     space: &mut [u8],
 ) -> i64 {
-    // SAFETY: record and texts, and the slice with its own length, are lent
-    // for the call only.
+    // SAFETY: record, texts and log, and the slice with its own length, are
+    // lent for the call only.
     unsafe {
         library::stewpigeon_sender_clock_in(
             sender.place_mut(),
-            texts.place(),
+            texts.place_mut(),
+            log.place_mut(),
             clock,
             space.as_mut_ptr(),
             space.len(),

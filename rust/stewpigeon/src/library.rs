@@ -40,6 +40,10 @@ pub struct Settings {
     pub level: usize,
     /// The buffering time in ms, 1 to 500.
     pub buffering: u64,
+    /// The most characters (code points) of new text per second, as a mean
+    /// over any ten seconds, 1 to 100: what the other side's client states as
+    /// "cps" (RFC 4103, section 6), or 30.
+    pub rate: usize,
     /// The payload type of T140, 96 to 127.
     pub t140: u8,
     /// The payload type of RED, 96 to 127, another than T140's.
@@ -49,6 +53,18 @@ pub struct Settings {
     /// The timestamp of clock 0.
     pub timestamp: u32,
     pub source: u32,
+}
+
+/// How far a sender has come in its log, of which it uses the first
+/// 10 * rate slots, in a circle. A `next` past the last of these counts as 0,
+/// and `used` up to their number.
+#[repr(C)]
+#[derive(Clone, Copy, Debug, PartialEq, Eq)]
+pub struct Pace {
+    /// The slot of the next character.
+    pub next: usize,
+    /// How many slots were used: those before it, the newest nearest.
+    pub used: usize,
 }
 
 /// How far a sender has come.
@@ -65,8 +81,8 @@ pub struct Progress {
     pub next: u16,
 }
 
-/// A sender's state but for its texts. A `room` past the last slot counts as
-/// 0, lengths count up to 160, and `count` up to 4.
+/// A sender's state but for its texts and its log. A `room` past the last slot
+/// counts as 0, lengths and `characters` count up to 160, and `count` up to 4.
 #[repr(C)]
 #[derive(Clone, Copy, Debug, PartialEq, Eq)]
 pub struct Sender {
@@ -77,7 +93,9 @@ pub struct Sender {
     pub room: usize,
     /// How many bytes wait there.
     pub len: usize,
-    /// When the first of them was offered.
+    /// How many characters they are.
+    pub characters: usize,
+    /// When the first of them was offered, or a packet left it behind.
     pub since: u64,
     /// The lengths of the last blocks sent, newest first.
     pub lens: [usize; 4],
@@ -85,6 +103,7 @@ pub struct Sender {
     pub ats: [u64; 4],
     /// How many of them there are.
     pub count: usize,
+    pub pace: Pace,
     pub progress: Progress,
 }
 
@@ -136,6 +155,9 @@ pub struct TextAnswer {
 /// newest nearest.
 pub type Texts = [u8; 800];
 
+/// A sender's log: when each of the last characters was sent.
+pub type Log = [u64; 1000];
+
 extern "C" {
     pub fn stewpigeon_read(
         expects: u8,
@@ -165,6 +187,7 @@ extern "C" {
         texts: *mut Texts,
         level: usize,
         buffering: u64,
+        rate: usize,
         t140: u8,
         red: u8,
         sequence: u16,
@@ -182,7 +205,8 @@ extern "C" {
 
     pub fn stewpigeon_sender_clock_in(
         sender: *mut Sender,
-        texts: *const Texts,
+        texts: *mut Texts,
+        log: *mut Log,
         clock: u64,
         packet: *mut u8,
         packet_len: usize,

@@ -24,6 +24,7 @@ pub enum Refusal {
     Text = 6,
     NoText = 7,
     Space = 8,
+    Rate = 9,
     Short = 10,
     Long = 11,
     Version = 12,
@@ -39,7 +40,7 @@ pub enum Refusal {
 }
 
 impl Refusal {
-    pub const ALL: [Refusal; 20] = [
+    pub const ALL: [Refusal; 21] = [
         Refusal::Level,
         Refusal::Buffering,
         Refusal::PayloadTypes,
@@ -48,6 +49,7 @@ impl Refusal {
         Refusal::Text,
         Refusal::NoText,
         Refusal::Space,
+        Refusal::Rate,
         Refusal::Short,
         Refusal::Long,
         Refusal::Version,
@@ -62,7 +64,7 @@ impl Refusal {
         Refusal::BlockText,
     ];
 
-    /// Its number, 1 to 8 or 10 to 21.
+    /// Its number, 1 to 21.
     pub fn number(self) -> u8 {
         self as u8
     }
@@ -84,6 +86,7 @@ impl Refusal {
             Refusal::Text => "offered text is not UTF-8",
             Refusal::NoText => "offered text is empty",
             Refusal::Space => "lent packet space shorter than the packet due",
+            Refusal::Rate => "rate 0 or above 100 characters a second",
             Refusal::Short => "packet under 12 bytes",
             Refusal::Long => "packet over 1,472 bytes",
             Refusal::Version => "version is not 2",
@@ -110,6 +113,7 @@ impl Refusal {
             Refusal::Text => "offer whole letters of UTF-8",
             Refusal::NoText => "offer at least one letter",
             Refusal::Space => "lend 829 bytes, which hold every packet, and call again",
+            Refusal::Rate => "open with 1 to 100 characters a second, 30 being usual",
             Refusal::Short => "give whole RTP packets, and drop this one",
             Refusal::Long => "give RTP packets one at a time, and drop this one",
             Refusal::Version => "not RTP, so drop it",

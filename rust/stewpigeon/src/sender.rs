@@ -1,17 +1,24 @@
 //! Sending a line.
 
-use crate::{lent, Packet, Refusal, Settings};
+use crate::lent::{self, Pace};
+use crate::{Packet, Refusal, Settings};
 
 impl Settings {
     /// The usual buffering time in ms.
     pub const BUFFERING: u64 = 300;
     /// The longest buffering time in ms.
     pub const LONGEST_BUFFERING: u64 = 500;
+    /// The usual rate in characters per second, where a client states none.
+    pub const RATE: usize = 30;
+    /// The highest rate.
+    pub const HIGHEST_RATE: usize = 100;
 }
 
 /// A sender of one line. Offer it text as it is typed, and ask it for a
 /// packet often, at the latest when the buffering time is over. Clocks are in
-/// ms from the opening and never go back.
+/// ms from the opening and never go back. Over any ten seconds, both ends
+/// included, its packets have at most ten times the rate in characters of new
+/// text; what is more waits.
 ///
 /// ```
 /// use stewpigeon::{Refusal, Sender, Settings};
@@ -19,6 +26,7 @@ impl Settings {
 /// let mut sender = Sender::open(Settings {
 ///     level: 2,
 ///     buffering: Settings::BUFFERING,
+///     rate: Settings::RATE,
 ///     t140: 98,
 ///     red: 100,
 ///     sequence: 65_535,
@@ -39,12 +47,20 @@ impl Settings {
 /// let packet = stewpigeon::read(None, 98, 100, packet)?;
 /// assert_eq!(packet.older()[0].text, "é".as_bytes());
 /// assert_eq!(sender.offer(319, b"A"), Err(Refusal::Clock));
+///
+/// // 300 characters may go in ten seconds, and one has gone.
+/// for clock in [1000, 2000] {
+///     sender.offer(clock, &[b'a'; Sender::ROOM])?;
+///     sender.clock(clock, &mut space)?.expect("a packet is due");
+/// }
+/// assert_eq!(sender.waiting().len(), 1 + 2 * Sender::ROOM - 300);
 /// # Ok::<(), Refusal>(())
 /// ```
 #[derive(Clone, Debug)]
 pub struct Sender {
     record: lent::Sender,
     texts: lent::Texts,
+    log: Box<lent::Log>,
 }
 
 impl Sender {
@@ -60,18 +76,21 @@ impl Sender {
 
     /// The slots of its texts: the waiting room, and a block for each repeat.
     const SLOTS: usize = 1 + Sender::LEVEL;
+    /// The times in its log: a second's characters for ten seconds.
+    const LOG: usize = 10 * Settings::HIGHEST_RATE;
 
     /// A sender at clock 0.
     pub fn open(settings: Settings) -> Result<Sender, Refusal> {
         let mut sender = Sender {
             record: lent::Sender::ZERO,
             texts: [0; Sender::SLOTS * Sender::ROOM],
+            log: Box::new([0; Sender::LOG]),
         };
         let number = lent::sender_open(&mut sender.record, &mut sender.texts, settings);
         Refusal::check(number).map(|()| sender)
     }
 
-    /// Takes text, which waits for the next packet.
+    /// Takes text, which waits for the next packet that the rate lets take it.
     #[inline]
     pub fn offer(&mut self, clock: u64, text: &[u8]) -> Result<(), Refusal> {
         let number = lent::sender_offer(&mut self.record, &mut self.texts, clock, text);
@@ -86,7 +105,8 @@ impl Sender {
         clock: u64,
         space: &'a mut [u8],
     ) -> Result<Option<&'a [u8]>, Refusal> {
-        match lent::sender_clock(&mut self.record, &self.texts, clock, space) {
+        let Sender { record, texts, log } = self;
+        match lent::sender_clock(record, texts, &mut **log, clock, space) {
             0 => Ok(None),
             length @ 1.. => Ok(Some(&space[..length as usize])),
             refusal => {
@@ -101,6 +121,11 @@ impl Sender {
         &self.record.settings
     }
 
+    /// The text that waits.
+    pub fn waiting(&self) -> &[u8] {
+        self.texts().next().unwrap_or_default()
+    }
+
     /// The text that waits, and then the blocks kept, newest first.
     fn texts(&self) -> impl Iterator<Item = &[u8]> {
         let lens = [self.record.len].into_iter().chain(self.record.lens);
@@ -110,12 +135,21 @@ impl Sender {
             &self.texts[slot * Sender::ROOM..][..len]
         })
     }
+
+    /// When each of the last characters was sent, newest first.
+    fn times(&self) -> impl Iterator<Item = u64> + '_ {
+        let slots = 10 * self.record.settings.rate;
+        let Pace { next, used } = self.record.pace;
+        (1..=used).map(move |back| self.log[(next + slots - back) % slots])
+    }
 }
 
-/// Texts no longer kept do not count.
+/// Texts no longer kept do not count, nor do slots of the log not yet used.
 impl PartialEq for Sender {
     fn eq(&self, other: &Sender) -> bool {
-        self.record == other.record && self.texts().eq(other.texts())
+        self.record == other.record
+            && self.texts().eq(other.texts())
+            && self.times().eq(other.times())
     }
 }
 

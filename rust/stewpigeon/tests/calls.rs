@@ -1,7 +1,7 @@
 use std::mem::size_of;
 
-use stewpigeon::lent::{self, Block, Guarded, TextAnswer, Texts};
-use stewpigeon::{read, text, Refusal, Sender, Settings};
+use stewpigeon::lent::{self, Block, Guarded, Log, TextAnswer, Texts};
+use stewpigeon::{read, text, Refusal, Sender};
 
 const PACKET: [u8; 19] = [
     0x80, 0xe4, 0x00, 0x05, 0x00, 0x00, 0x03, 0xe8, 0x11, 0x22, 0x33, 0x44, 0xe2, 0x04, 0xb0, 0x01,
@@ -126,7 +126,7 @@ fn texts() {
 #[test]
 fn refusals_and_their_numbers() {
     let numbers: Vec<u8> = Refusal::ALL.into_iter().map(Refusal::number).collect();
-    assert_eq!(numbers, (1..=8).chain(10..=21).collect::<Vec<u8>>());
+    assert_eq!(numbers, (1..=21).collect::<Vec<u8>>());
     for number in 0..=255 {
         let refusal = Refusal::of(number);
         assert_eq!(refusal.is_some(), numbers.contains(&number));
@@ -137,6 +137,12 @@ fn refusals_and_their_numbers() {
         shown,
         "refused 2: buffering time 0 or above 500 ms; open with 1 to 500 ms, 300 being usual"
     );
+    let shown = Refusal::Rate.to_string();
+    assert_eq!(
+        shown,
+        "refused 9: rate 0 or above 100 characters a second; \
+         open with 1 to 100 characters a second, 30 being usual"
+    );
 }
 
 #[test]
@@ -145,74 +151,8 @@ fn sizes() {
     assert_eq!(size_of::<lent::Step>(), 40);
     assert_eq!(size_of::<lent::Packet>(), 136);
     assert_eq!(size_of::<TextAnswer>(), 24);
-    assert_eq!(size_of::<lent::Sender>(), 168);
+    assert_eq!(size_of::<lent::Sender>(), 200);
     assert_eq!(size_of::<Texts>(), 800);
-    assert_eq!(size_of::<Sender>(), 968);
-}
-
-#[test]
-fn texts_of_a_sender() {
-    let settings = Settings {
-        level: 4,
-        buffering: 1,
-        t140: 98,
-        red: 100,
-        sequence: 0,
-        timestamp: 0,
-        source: 0,
-    };
-    let mut sender = lent::Sender::ZERO;
-    let mut texts = [0xee; 800];
-    assert_eq!(lent::sender_open(&mut sender, &mut texts, settings), 0);
-    assert_eq!(texts, [0; 800]);
-    // Each packet leaves its text where it waited, and the sixth text lies
-    // over the first.
-    let mut wanted = texts;
-    let mut space = [0; Sender::LONGEST_PACKET];
-    for (clock, letter) in (0..6).zip(*b"abcdef") {
-        let slot = clock as usize % 5;
-        for (place, text) in [(0, &[letter; 7][..]), (7, &[letter; 90])] {
-            let number = lent::sender_offer(&mut sender, &mut texts, clock, text);
-            wanted[slot * Sender::ROOM + place..][..text.len()].copy_from_slice(text);
-            assert_eq!((number, sender.room, texts), (0, slot, wanted));
-        }
-        assert_eq!((sender.len, sender.since), (97, clock));
-        assert!(lent::sender_clock(&mut sender, &texts, clock, &mut space) > 0);
-        assert_eq!((sender.len, sender.since), (0, 0));
-    }
-    assert_eq!((sender.room, sender.count), (1, 4));
-    assert_eq!((sender.lens, sender.ats), ([97; 4], [5, 4, 3, 2]));
-    assert_eq!(texts, wanted);
-
-    // A refused opening leaves zeros.
-    let bad = Settings {
-        level: 5,
-        ..settings
-    };
-    assert_eq!(lent::sender_open(&mut sender, &mut texts, bad), 1);
-    assert_eq!((sender, texts), (lent::Sender::ZERO, [0; 800]));
-}
-
-#[test]
-fn any_record_is_answered() {
-    let mut sender = lent::Sender::ZERO;
-    let mut texts: Texts = [b'a'; 800];
-    sender.settings = Settings {
-        level: 4,
-        buffering: 300,
-        t140: 98,
-        red: 100,
-        sequence: 0,
-        timestamp: 0,
-        source: 0,
-    };
-    (sender.room, sender.len, sender.count) = (usize::MAX, usize::MAX, usize::MAX);
-    sender.lens = [usize::MAX; 4];
-    let before = sender;
-    assert_eq!(lent::sender_offer(&mut sender, &mut texts, 0, b"b"), 4);
-    assert_eq!((sender, texts), (before, [b'a'; 800]));
-    let mut space = [0; Sender::LONGEST_PACKET];
-    let length = lent::sender_clock(&mut sender, &texts, 0, &mut space);
-    assert_eq!(length, Sender::LONGEST_PACKET as i64);
-    assert_eq!((sender.room, sender.len, sender.count), (1, 0, 4));
+    assert_eq!(size_of::<Log>(), 8000);
+    assert_eq!(size_of::<Sender>(), 1008);
 }

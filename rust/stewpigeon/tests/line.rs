@@ -3,6 +3,7 @@ use stewpigeon::{read, Packet, Receiver, Refusal, Sender, Settings, Step};
 const SETTINGS: Settings = Settings {
     level: 2,
     buffering: Settings::BUFFERING,
+    rate: Settings::RATE,
     t140: 98,
     red: 100,
     sequence: 65_535,
@@ -39,6 +40,10 @@ fn refused_openings() {
         ..SETTINGS
     };
     assert_eq!(refusal(bad), Some(Refusal::PayloadTypes));
+    for rate in [0, Settings::HIGHEST_RATE + 1, 257] {
+        let bad = Settings { rate, ..SETTINGS };
+        assert_eq!(refusal(bad), Some(Refusal::Rate));
+    }
     assert_eq!(Receiver::open(98, 128), Err(Refusal::PayloadTypes));
 }
 
@@ -112,6 +117,7 @@ fn the_longest_packet() {
     let mut sender = open(Settings {
         level: Sender::LEVEL,
         buffering: 1,
+        rate: Settings::HIGHEST_RATE,
         ..SETTINGS
     });
     let mut packet = vec![];
@@ -140,4 +146,47 @@ fn texts_no_longer_kept_do_not_count() {
     let mut other = line(b"A");
     other.offer(1200, b"F").unwrap();
     assert_ne!(line(b"A"), other);
+}
+
+/// Text beyond the rate waits, whole letters of it, and repeats go on.
+#[test]
+fn text_beyond_the_rate() {
+    let mut sender = open(Settings {
+        rate: 1,
+        ..SETTINGS
+    });
+    sender.offer(0, "å".repeat(11).as_bytes()).unwrap();
+    let first = sent(&mut sender, 0);
+    let packet = read(Some(7), 98, 100, &first).unwrap();
+    assert_eq!(packet.primary, "å".repeat(10).as_bytes());
+    assert_eq!(sender.waiting(), "å".as_bytes());
+    for clock in [300, 600] {
+        let repeat = sent(&mut sender, clock);
+        let repeat = read(Some(7), 98, 100, &repeat).unwrap();
+        assert_eq!(repeat.older()[0].text, packet.primary);
+        assert_eq!(repeat.primary, b"");
+    }
+    let mut space = [0; Sender::LONGEST_PACKET];
+    assert_eq!(sender.clock(10_000, &mut space), Ok(None));
+    let last = sent(&mut sender, 10_001);
+    let packet = read(Some(7), 98, 100, &last).unwrap();
+    assert_eq!((packet.primary, packet.marker), ("å".as_bytes(), false));
+    assert_eq!(sender.waiting(), b"");
+}
+
+#[test]
+fn times_of_characters_count() {
+    let line = |clock| {
+        let mut sender = open(Settings {
+            level: 0,
+            ..SETTINGS
+        });
+        for clock in [clock, 1000, 2000, 3000, 4000] {
+            sender.offer(clock, b"A").unwrap();
+            sent(&mut sender, clock);
+        }
+        sender
+    };
+    assert_eq!(line(0), line(0));
+    assert_ne!(line(0), line(1));
 }

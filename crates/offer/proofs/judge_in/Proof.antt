@@ -1,17 +1,19 @@
 use Prim.Native.Nat.{ℕ, _+_, _*_, _≤_, min}
 use mathlib.Core.Path.{_≡_, _∙_, refl, ap, sym}
-use mathlib.Core.List.{_++_}
+use mathlib.Core.Bool.{true}
 use native.Mathlib.Omega.{arith}
-use lib.ListN.{length, take, drop}
-use borrow.Author.Tests.{not-true, not-false}
+use lib.ListN.{length}
 use denote.Ref.{now}
-use Rattle.base.specs.Arrays.{over}
+use Rattle.text_spec.specs.Utf8 as Utf8
+use Rattle.text_spec.specs.Utf8.{textOf, wellFormed, isText}
+use Rattle.text_spec.specs.Front.{counted}
+use Rattle.text.specs.Answer.{textAnswered}
 use Rattle.packet.specs.Refusal.{number, outcomeNumber}
 use Rattle.packet.proofs.Names.{number-positive}
 use Rattle.sender_spec.specs.Limits.{roomSize}
 use Rattle.sender_spec.specs.Answers.{CallResult}
 use Rattle.sender_spec.proofs.Calls.{offer-settings, offer-5, offer-7, offer-6, offer-4, offer-joined}
-use Rattle.slots.specs.Slots.{textsSize, waitingIn}
+use Rattle.slots.specs.Slots.{textsSize, waitingIn, written}
 use Rattle.slots.proofs.Slots.{waiting-length}
 use Rattle.offer.specs.Offer.{senderWhere, endOf}
 use borrow.Author.Needs.{needs}
@@ -24,6 +26,10 @@ size c = c .pre
 
 number-by : {r x : CallResult} → r ≡ x → x .number ≡ r .number
 number-by e = ap (λ (y : CallResult). y .number) (sym e)
+
+-- the characters that were told
+told : (c : tie.After-known-told2) → Utf8.Characters (c .before .characters .given .0 .0) ≡ textOf (now (c .before .before .before .before .before .before .before .before .before .before .before .args .text))
+told c = sym (ap textAnswered (c .before .characters .given .1)) ∙ c .before .before .before .text-of .ensures
 
 settings-outcome-requires : tie.Need-settings-outcome-requires
 settings-outcome-requires c κs = search needs
@@ -39,7 +45,7 @@ returns c =
     let state = senderWhere (a .settings) (a .latest) (waitingIn (now (a .texts)) (a .waiting .room) (a .waiting .len)) in
     let k = c .before .outcome .given in
     let e : outcomeNumber (r .result) ≡ number (k .0 .0) = ap outcomeNumber (k .1) in
-    record { number = number-by (offer-settings state (a .clock) (now (a .text)) (number (k .0 .0)) (sym e ∙ r .ensures) (number-positive (k .0 .0))); bytes = refl; whole = size start }
+    record { number = number-by (offer-settings state (a .clock) (now (a .text)) (number (k .0 .0)) (sym e ∙ r .ensures) (number-positive (k .0 .0))); counted = refl; bytes = refl; whole = size start }
 
 enum-told : tie.Need-enum-told
 enum-told c = search needs
@@ -50,7 +56,7 @@ returns-2 c =
     let a = start .args in
     let r = c .before .before .before .settings-outcome in
     let state = senderWhere (a .settings) (a .latest) (waitingIn (now (a .texts)) (a .waiting .room) (a .waiting .len)) in
-    record { number = number-by (offer-5 state (a .clock) (now (a .text)) (outcomeNumber (r .result)) (r .ensures) (ap outcomeNumber (c .before .enum-told .given .1)) (c .if1 .taken)); bytes = refl; whole = size start }
+    record { number = number-by (offer-5 state (a .clock) (now (a .text)) (outcomeNumber (r .result)) (r .ensures) (ap outcomeNumber (c .before .enum-told .given .1)) (c .if1 .taken)); counted = refl; bytes = refl; whole = size start }
 
 returns-3 : tie.Need-returns-3
 returns-3 c =
@@ -58,40 +64,34 @@ returns-3 c =
     let a = start .args in
     let r = c .before .before .before .before .settings-outcome in
     let state = senderWhere (a .settings) (a .latest) (waitingIn (now (a .texts)) (a .waiting .room) (a .waiting .len)) in
-    record { number = number-by (offer-7 state (a .clock) (now (a .text)) (outcomeNumber (r .result)) (r .ensures) (ap outcomeNumber (c .before .before .enum-told .given .1)) (c .before .if1 .left) (c .if2 .taken)); bytes = refl; whole = size start }
+    record { number = number-by (offer-7 state (a .clock) (now (a .text)) (outcomeNumber (r .result)) (r .ensures) (ap outcomeNumber (c .before .before .enum-told .given .1)) (c .before .if1 .left) (c .if2 .taken)); counted = refl; bytes = refl; whole = size start }
 
-is-text-requires : tie.Need-is-text-requires
-is-text-requires c κs = search needs
+text-of-requires : tie.Need-text-of-requires
+text-of-requires c κs = search needs
 
-returns-4 : tie.Need-returns-4
-returns-4 c =
-    let start = c .before .before .before .before .before .before .before .before .before in
-    let a = start .args in
-    let r = c .before .before .before .before .before .before .settings-outcome in
-    let state = senderWhere (a .settings) (a .latest) (waitingIn (now (a .texts)) (a .waiting .room) (a .waiting .len)) in
-    let is-text = c .before .is-text in
-    record {
-      number = number-by (offer-6 state (a .clock) (now (a .text)) (outcomeNumber (r .result)) (r .ensures) (ap outcomeNumber (c .before .before .before .before .enum-told .given .1)) (c .before .before .before .if1 .left) (c .before .before .if2 .left) (sym (is-text .ensures) ∙ not-true (is-text .result) (c .if3 .taken)));
-      bytes = refl;
-      whole = size start;
-    }
+enum-told-2 : tie.Need-enum-told-2
+enum-told-2 c = search needs
+
+enum-known-characters : tie.Need-enum-known-characters
+enum-known-characters c = search needs
 
 least-requires : tie.Need-least-requires
 least-requires c κs = search needs
 
-add-if4 : tie.Need-add-if4
-add-if4 c = search needs
+add-if3 : tie.Need-add-if3
+add-if3 c = search needs
 
-returns-5 : tie.Need-returns-5
-returns-5 c =
-    let start = c .before .before .before .before .before .before .before .before .before .before .before in
+returns-4 : tie.Need-returns-4
+returns-4 c =
+    let start = c .before .before .before .before .before .before .before .before .before .before .before .before .before in
     let a = start .args in
-    let r = c .before .before .before .before .before .before .before .before .settings-outcome in
+    let r = c .before .before .before .before .before .before .before .before .before .before .settings-outcome in
     let state = senderWhere (a .settings) (a .latest) (waitingIn (now (a .texts)) (a .waiting .room) (a .waiting .len)) in
-    let is-text = c .before .before .before .is-text in
     let waits = waiting-length (now (a .texts)) (size start) (a .waiting .room) (a .waiting .len) in
+    let text : isText (now (a .text)) ≡ true = ap wellFormed (sym (told (c .before .before))) in
     record {
-      number = number-by (offer-4 state (a .clock) (now (a .text)) (outcomeNumber (r .result)) (r .ensures) (ap outcomeNumber (c .before .before .before .before .before .before .enum-told .given .1)) (c .before .before .before .before .before .if1 .left) (c .before .before .before .before .if2 .left) (sym (is-text .ensures) ∙ not-false (is-text .result) (c .before .before .if3 .left)) (omega (arith, waits, c .before .least .ensures)));
+      number = number-by (offer-4 state (a .clock) (now (a .text)) (outcomeNumber (r .result)) (r .ensures) (ap outcomeNumber (c .before .before .before .before .before .before .before .before .enum-told .given .1)) (c .before .before .before .before .before .before .before .if1 .left) (c .before .before .before .before .before .before .if2 .left) text (omega (arith, waits, c .before .least .ensures)));
+      counted = refl;
       bytes = refl;
       whole = size start;
     }
@@ -108,27 +108,41 @@ add-at c = search needs
 put-requires : tie.Need-put-requires
 put-requires c κs = search needs
 
+returns-5 : tie.Need-returns-5
+returns-5 c =
+    let start = c .before .before .before .before .before .before .before .before .before .before in
+    let a = start .args in
+    let r = c .before .before .before .before .before .before .before .settings-outcome in
+    let state = senderWhere (a .settings) (a .latest) (waitingIn (now (a .texts)) (a .waiting .room) (a .waiting .len)) in
+    let stops = sym (ap textAnswered (c .enum-told2 .given .1)) ∙ c .before .before .text-of .ensures in
+    record {
+      number = number-by (offer-6 state (a .clock) (now (a .text)) (outcomeNumber (r .result)) (r .ensures) (ap outcomeNumber (c .before .before .before .before .before .enum-told .given .1)) (c .before .before .before .before .if1 .left) (c .before .before .before .if2 .left) (ap wellFormed (sym stops)));
+      counted = refl;
+      bytes = refl;
+      whole = size start;
+    }
+
 same-length : tie.Need-same-length
 same-length c = search needs
 
 returns-6 : tie.Need-returns-6
 returns-6 c =
-    let start = c .before .before .before .before .before .before .before .before .before .before .before .before .before .before .before .before in
+    let start = c .before .before .before .before .before .before .before .before .before .before .before .before .before .before .before .before .before .before in
     let a = start .args in
-    let r = c .before .before .before .before .before .before .before .before .before .before .before .before .before .settings-outcome in
+    let r = c .before .before .before .before .before .before .before .before .before .before .before .before .before .before .before .settings-outcome in
     let texts = now (a .texts) in
     let x = now (a .text) in
-    let state = senderWhere (a .settings) (a .latest) (waitingIn texts (a .waiting .room) (a .waiting .len)) in
-    let is-text = c .before .before .before .before .before .before .before .before .is-text in
+    let state = senderWhere (a .settings) (a .latest) (waitingIn (now (a .texts)) (a .waiting .room) (a .waiting .len)) in
     let least = c .before .before .before .before .before .before .least in
     let room = c .before .before .before .before .room-of in
     let at : room .result * roomSize + least .result ≡ endOf (a .waiting .room) (a .waiting .len) = λ i. room .ensures .0 i * roomSize + least .ensures i in
-    let fits : min (a .waiting .len) roomSize + length x ≤ roomSize = omega (arith, least .ensures, c .before .before .before .before .before .if4 .left) in
+    let fits : min (a .waiting .len) roomSize + length x ≤ roomSize = omega (arith, least .ensures, c .before .before .before .before .before .if3 .left) in
     let waits = waiting-length texts (size start) (a .waiting .room) (a .waiting .len) in
-    let bytes = c .before .before .put .ensures ∙ ap (λ (k : ℕ). take k texts ++ over x (drop k texts)) at in
+    let text : isText x ≡ true = ap wellFormed (sym (told (c .before .before .before .before .before .before .before))) in
     record {
-      number = number-by (offer-joined state (a .clock) x (outcomeNumber (r .result)) (r .ensures) (ap outcomeNumber (c .before .before .before .before .before .before .before .before .before .before .before .enum-told .given .1)) (c .before .before .before .before .before .before .before .before .before .before .if1 .left) (c .before .before .before .before .before .before .before .before .before .if2 .left) (sym (is-text .ensures) ∙ not-false (is-text .result) (c .before .before .before .before .before .before .before .if3 .left)) (omega (arith, waits)));
-      bytes = bytes;
+      number = number-by (offer-joined state (a .clock) x (outcomeNumber (r .result)) (r .ensures) (ap outcomeNumber (c .before .before .before .before .before .before .before .before .before .before .before .before .before .enum-told .given .1)) (c .before .before .before .before .before .before .before .before .before .before .before .before .if1 .left) (c .before .before .before .before .before .before .before .before .before .before .before .if2 .left) text (omega (arith, waits)));
+      counted = ap counted (told (c .before .before .before .before .before .before .before));
+      bytes = c .before .before .put .ensures ∙ ap (λ (k : ℕ). written k x texts) at;
       whole = size start;
     }
 
@@ -142,14 +156,16 @@ judge-in-spec =
     enum-told
     returns-2
     returns-3
-    is-text-requires
-    returns-4
+    text-of-requires
+    enum-told-2
+    enum-known-characters
     least-requires
-    add-if4
-    returns-5
+    add-if3
+    returns-4
     room-of-requires
     mul-at
     add-at
     put-requires
+    returns-5
     same-length
     returns-6)

@@ -1,7 +1,7 @@
 use mathlib.Core.Path.{_∙_, sym}
 use native.Mathlib.Omega.{arith}
 use borrow.Author.Needs.{needs}
-use Rattle.sender_spec.proofs.Calls.{settings-1, settings-2, settings-3, settings-pass}
+use Rattle.sender_spec.proofs.Calls.{settings-1, settings-2, settings-3, settings-9, settings-pass}
 use Rattle.settings.specs.State.{settingsOf}
 use Rattle.settings.proofs.settings_outcome.Statement.{statement}
 use Rattle.settings.proofs.settings_outcome.Tie as tie
@@ -23,12 +23,30 @@ returns-3 c =
     let s = settingsOf (c .before .before .before .before .before .args .settings) in
     sym (settings-3 s (omega arith) (sym (c .before .before .before .buffering-bad .ensures) ∙ c .before .before .if2 .left) (sym (c .before .types-bad .ensures) ∙ c .if3 .taken))
 
+rate-bad-requires : tie.Need-rate-bad-requires
+rate-bad-requires c κs = search needs
+
 returns-4 : tie.Need-returns-4
 returns-4 c =
-    let s = settingsOf (c .before .before .before .before .before .args .settings) in
-    sym (settings-pass s (omega arith) (sym (c .before .before .before .buffering-bad .ensures) ∙ c .before .before .if2 .left) (sym (c .before .types-bad .ensures) ∙ c .if3 .left))
+    let q = c .before .before in
+    let s = settingsOf (q .before .before .before .before .before .args .settings) in
+    sym (settings-9 s (omega arith) (sym (q .before .before .before .buffering-bad .ensures) ∙ q .before .before .if2 .left) (sym (q .before .types-bad .ensures) ∙ q .if3 .left) (sym (c .before .rate-bad .ensures) ∙ c .if4 .taken))
+
+returns-5 : tie.Need-returns-5
+returns-5 c =
+    let q = c .before .before in
+    let s = settingsOf (q .before .before .before .before .before .args .settings) in
+    sym (settings-pass s (omega arith) (sym (q .before .before .before .buffering-bad .ensures) ∙ q .before .before .if2 .left) (sym (q .before .types-bad .ensures) ∙ q .if3 .left) (sym (c .before .rate-bad .ensures) ∙ c .if4 .left))
 
 pub settings-outcome-spec : {M : Type 1} → statement M
 settings-outcome-spec =
     tie.close
-    (tie.spec returns buffering-bad-requires returns-2 types-bad-requires returns-3 returns-4)
+    (tie.spec
+    returns
+    buffering-bad-requires
+    returns-2
+    types-bad-requires
+    returns-3
+    rate-bad-requires
+    returns-4
+    returns-5)

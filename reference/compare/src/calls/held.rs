@@ -1,6 +1,7 @@
 //! A sender's record and texts, what they mean, and what a call writes to
-//! them.
+//! them. Its log is apart.
 
+use super::log::behind;
 use stewpigeon::lent::{Progress, Sender, Settings, Texts};
 
 /// The longest text in a slot.
@@ -31,14 +32,16 @@ impl Held {
         texts: [0; SLOTS * ROOM],
     };
 
-    /// Behind an accepted offer: the text lies behind what waits.
-    pub fn offered(&self, clock: u64, text: &[u8]) -> Held {
+    /// Behind an accepted offer of so many characters: the text lies behind
+    /// what waits.
+    pub fn offered(&self, clock: u64, text: &[u8], characters: usize) -> Held {
         let mut held = *self;
         let waits = self.record.len.min(ROOM);
         let place = room(&self.record) * ROOM + waits;
         held.texts[place..][..text.len()].copy_from_slice(text);
         held.record.clock = clock;
         held.record.len = waits + text.len();
+        held.record.characters = self.record.characters.min(ROOM) + characters;
         if waits == 0 {
             held.record.since = clock;
         }
@@ -52,34 +55,38 @@ impl Held {
         held
     }
 
-    /// Behind a packet: what waited is the newest block where it lies.
-    pub fn sent(&self, clock: u64) -> Held {
+    /// Behind a packet that takes so many bytes and characters of what waits:
+    /// they are the newest block where they lie, and the rest goes on to the
+    /// next slot.
+    pub fn sent(&self, clock: u64, taken: usize, characters: usize) -> Held {
         let before = &self.record;
         let [a, b, c, _] = before.lens;
         let [d, e, f, _] = before.ats;
+        let (room, waits) = (room(before), before.len.min(ROOM));
+        let next = (room + 1) % SLOTS;
+        let by_text = |some, none| if taken > 0 { some } else { none };
         let record = Sender {
             settings: before.settings,
             clock,
-            room: (room(before) + 1) % SLOTS,
-            len: 0,
-            since: 0,
-            lens: [before.len.min(ROOM), a, b, c],
+            room: next,
+            len: waits - taken,
+            characters: before.characters.min(ROOM) - characters,
+            since: by_text(clock, before.since),
+            lens: [taken, a, b, c],
             ats: [clock, d, e, f],
             count: before.count.min(LEVEL - 1) + 1,
+            pace: behind(before, characters),
             progress: Progress {
                 sent: 1,
                 last: clock,
-                last_text: match before.len {
-                    0 => before.progress.last_text,
-                    _ => clock,
-                },
+                last_text: by_text(clock, before.progress.last_text),
                 next: before.progress.next.wrapping_add(1),
             },
         };
-        Held {
-            record,
-            texts: self.texts,
-        }
+        let mut texts = self.texts;
+        let rest = room * ROOM + taken..room * ROOM + waits;
+        texts.copy_within(rest, next * ROOM);
+        Held { record, texts }
     }
 
     /// With blocks' lengths as far as they count.
@@ -102,7 +109,9 @@ pub struct Meaning {
     pub settings: Settings,
     pub clock: u64,
     pub waiting: Vec<u8>,
-    /// When the first byte that waits was offered.
+    /// How many characters wait.
+    pub characters: usize,
+    /// When the first of them was offered, or left behind.
     pub since: u64,
     /// The last blocks sent, newest first.
     pub blocks: Vec<Block>,
@@ -125,6 +134,7 @@ impl Meaning {
             settings: record.settings,
             clock: record.clock,
             waiting: text(room, record.len),
+            characters: record.characters.min(ROOM),
             since: record.since,
             blocks: (0..record.count.min(LEVEL)).map(block).collect(),
             progress: record.progress,

@@ -4,6 +4,7 @@
 use std::hint::black_box;
 
 use super::held::Held;
+use super::log::Log;
 use crate::patterns::{filled, guarded, Lent};
 use crate::random::Random;
 use stewpigeon::lent::{self, Guarded, Receiver, Sender, Settings, Step, Texts};
@@ -66,7 +67,7 @@ pub fn step(
     Ok(Ok(step))
 }
 
-/// A sender's record and texts lent apart.
+/// A sender's record and texts, lent apart.
 #[derive(Clone)]
 struct Lending {
     record: Guarded<Sender>,
@@ -90,11 +91,7 @@ impl Lending {
 
     /// Every byte stayed.
     fn is(&self, before: &Lending) -> bool {
-        self.record.bytes() == before.record.bytes() && self.same_texts(before)
-    }
-
-    fn same_texts(&self, before: &Lending) -> bool {
-        self.texts.bytes() == before.texts.bytes()
+        self.record.bytes() == before.record.bytes() && self.texts.bytes() == before.texts.bytes()
     }
 
     /// Nothing was written outside record and texts.
@@ -136,31 +133,49 @@ pub fn offer(random: &mut Random, held: &mut Held, clock: u64, text: &[u8]) -> A
     Ok(number)
 }
 
-pub fn clock(random: &mut Random, held: &mut Held, clock: u64, space: &mut Lent) -> Answered<i64> {
+/// A clock call. What a packet must have written to the log is looked at by
+/// the caller.
+pub fn clock(
+    random: &mut Random,
+    held: &mut Held,
+    log: &mut Log,
+    clock: u64,
+    space: &mut Lent,
+) -> Answered<i64> {
     let mut sender = Lending::new(random, held);
     let mut before = (sender.clone(), space.clone());
-    let answer = lent::sender_clock(&mut sender.record, &sender.texts, clock, space.bytes_mut());
+    let answer = lent::sender_clock(
+        &mut sender.record,
+        &mut sender.texts,
+        &mut log.lent,
+        clock,
+        space.bytes_mut(),
+    );
     *held = sender.held();
-    demand(
-        black_box(&sender).same_texts(&before.0),
-        "bytes of the texts or around them changed",
-    )?;
-    demand(
-        answer > 0 || *space == before.1,
-        "bytes of the space changed without a packet",
-    )?;
-    if answer == 0 {
-        let record = before.0.record.value();
-        before.0.record.set(Sender { clock, ..record });
-        demand(
-            sender.is(&before.0),
-            "a quiet call wrote more than the clock",
-        )?;
+    sender.around(&before.0)?;
+    if answer > 0 {
+        return Ok(answer);
     }
     demand(
-        answer >= 0 || sender.is(&before.0),
-        "a refusal changed bytes of record or texts",
+        *space == before.1,
+        "bytes of the space changed without a packet",
     )?;
-    sender.around(&before.0)?;
+    demand(
+        log.is_due(),
+        "bytes of the log or around it changed without a packet",
+    )?;
+    if answer < 0 {
+        demand(
+            sender.is(&before.0),
+            "a refusal changed bytes of record or texts",
+        )?;
+        return Ok(answer);
+    }
+    let record = before.0.record.value();
+    before.0.record.set(Sender { clock, ..record });
+    demand(
+        sender.is(&before.0),
+        "a quiet call wrote more than the clock",
+    )?;
     Ok(answer)
 }

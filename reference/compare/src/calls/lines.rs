@@ -109,14 +109,15 @@ fn send(
             }
             channel::Call::Clock { clock, .. } => *clock,
         };
-        let block = pair.waiting().to_vec();
+        let mut block = pair.waiting().to_vec();
         let space = space(random);
         if let Ok(Some(packet)) = pair.clock(random, clock, space, tally)? {
             let read = read(Some(settings.source), settings.t140, settings.red, &packet)
                 .map_err(|number| format!("a packet sent is refused {number}"))?;
-            if read.primary() != block {
-                return Err("the primary is not the text that waited".to_string());
+            if [read.primary(), pair.waiting()].concat() != block {
+                return Err("primary and rest are not the text that waited".to_string());
             }
+            block.truncate(read.primary().len());
             line.sent.push(Sent { clock, block });
             line.packets.push(packet);
         }
@@ -157,6 +158,9 @@ pub fn another_makers(random: &mut Random, calls: usize, tally: &mut Tally) -> R
 /// How many packets a long line has: more than two rounds of the numbers.
 const LONG: u64 = 140_000;
 
+/// How many ms they are apart, so that each takes the text that waits.
+const APART: u64 = 11;
+
 /// Lines of our sender that pass 65,535 several times: heard in jumps up to
 /// the window's ends, and with losses, copies and delays all along.
 pub fn long(random: &mut Random, calls: usize, tally: &mut Tally) -> Result<(), String> {
@@ -164,10 +168,11 @@ pub fn long(random: &mut Random, calls: usize, tally: &mut Tally) -> Result<(), 
     for level in 0..=4 {
         let settings = Settings {
             buffering: 1,
+            rate: 100,
             ..channel::settings(random, level)
         };
         let mut calls = vec![];
-        for clock in 0..packets {
+        for clock in (0..packets).map(|k| APART * k) {
             let text = vec![b'a' + (clock % 26) as u8];
             calls.push(channel::Call::Offer { clock, text });
             calls.push(channel::Call::Clock { clock, space: 0 });

@@ -35,10 +35,11 @@ fn bad_settings(random: &mut Random) -> Settings {
     let mut bad = settings(random, level);
     for _ in 0..random.within(1, 3) {
         let any = random.number();
-        match random.below(4) {
+        match random.below(5) {
             0 => bad.level = random.pick(&[4, 5, 6, 255, 256, 1 << 32, any as usize, usize::MAX]),
             1 => bad.buffering = random.pick(&[0, 1, 500, 501, 65_836, any, u64::MAX]),
-            2 => bad.t140 = random.pick(&[0, 95, 96, 127, 128, 226, 255, any as u8]),
+            2 => bad.rate = random.pick(&[0, 1, 100, 101, 256, 257, 1 << 32, any as usize]),
+            3 => bad.t140 = random.pick(&[0, 95, 96, 127, 128, 226, 255, any as u8]),
             _ => bad.red = random.pick(&[0, 95, 96, 127, 128, 255, bad.t140, any as u8]),
         }
     }

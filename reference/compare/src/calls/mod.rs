@@ -2,30 +2,34 @@
 //! the independent program.
 
 mod any_state;
+mod expected;
 mod held;
 mod library;
 mod lines;
 mod lists;
+mod log;
 mod named;
+mod rates;
 mod receivers;
 mod rules;
 mod senders;
 mod space;
 pub mod tally;
 
-pub use senders::library_settings;
+pub use expected::library_settings;
 
 use crate::random::Random;
 use tally::Tally;
 
 type Part = fn(&mut Random, usize, &mut Tally) -> Result<(), String>;
 
-const PARTS: [(&str, Part); 9] = [
+const PARTS: [(&str, Part); 10] = [
     ("receiver openings", lists::receiver_openings),
     ("sender openings", lists::sender_openings),
     ("loss marks", lists::marks),
     ("lists of packets", lists::packets),
     ("lists of offers and clock calls", lists::sender_calls),
+    ("senders held to their rates", rates::run),
     ("lines of our sender", lines::ours),
     ("lines of another maker's sender", lines::another_makers),
     ("long lines", lines::long),

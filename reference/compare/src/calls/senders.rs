@@ -1,6 +1,10 @@
 //! A sender of the library beside an independent one.
 
-use super::held::{self, Held, Meaning, LEVEL, ROOM, SLOTS};
+use std::iter::repeat_n;
+
+use super::expected::{library_settings, meaning, record};
+use super::held::{Held, Meaning, ROOM, SLOTS};
+use super::log::Log;
 use super::space::Space;
 use super::tally::{Answer, Call, Tally};
 use super::{any_state, library};
@@ -8,75 +12,18 @@ use crate::check::hex;
 use crate::patterns::Lent;
 use crate::random::Random;
 use independent::sender::{Clocked, Sender, Settings};
-use stewpigeon::lent;
+use stewpigeon::lent::Texts;
 
 pub struct Pair {
     library: Held,
+    log: Log,
     independent: Sender,
     /// How many packets they sent.
     packets: usize,
+    /// When each character was sent, by the independent one.
+    times: Vec<u64>,
     /// What the library's texts must be.
-    texts: lent::Texts,
-}
-
-pub fn library_settings(settings: &Settings) -> lent::Settings {
-    lent::Settings {
-        level: settings.level,
-        buffering: settings.buffering,
-        t140: settings.t140,
-        red: settings.red,
-        sequence: settings.sequence,
-        timestamp: settings.timestamp,
-        source: settings.source,
-    }
-}
-
-fn progress(sender: &Sender) -> lent::Progress {
-    lent::Progress {
-        sent: sender.last_packet().is_some().into(),
-        last: sender.last_packet().unwrap_or(0),
-        last_text: sender.last_text().unwrap_or(0),
-        next: sender.sequence(),
-    }
-}
-
-/// The record of an independent sender in this slot: zeros past its count.
-fn record(sender: &Sender, room: usize) -> lent::Sender {
-    let mut lens = [0; LEVEL];
-    let mut ats = [0; LEVEL];
-    let mut count = 0;
-    for block in sender.blocks() {
-        lens[count] = block.len();
-        ats[count] = block.clock;
-        count += 1;
-    }
-    lent::Sender {
-        settings: library_settings(sender.settings()),
-        clock: sender.latest(),
-        room,
-        len: sender.waiting().len(),
-        since: sender.waiting().clock,
-        lens,
-        ats,
-        count,
-        progress: progress(sender),
-    }
-}
-
-/// What an independent sender says of itself.
-fn meaning(sender: &Sender) -> Meaning {
-    let blocks = sender.blocks().map(|block| held::Block {
-        text: block.text().to_vec(),
-        at: block.clock,
-    });
-    Meaning {
-        settings: library_settings(sender.settings()),
-        clock: sender.latest(),
-        waiting: sender.waiting().text().to_vec(),
-        since: sender.waiting().clock,
-        blocks: blocks.collect(),
-        progress: progress(sender),
-    }
+    texts: Texts,
 }
 
 impl Pair {
@@ -87,14 +34,17 @@ impl Pair {
         tally: &mut Tally,
     ) -> Result<Pair, String> {
         let call = || format!("opening a sender, {settings:?}");
+        let log = Log::any(random);
         let (number, library) = library::sender_open(random, library_settings(settings))
             .map_err(|what| format!("{}: {what}", call()))?;
         let opened = Sender::open(*settings);
         let wanted = *opened.as_ref().err().unwrap_or(&0);
         let mut pair = Pair {
             library,
+            log,
             independent: opened.unwrap_or_else(|_| Sender::zero()),
             packets: 0,
+            times: vec![],
             texts: Held::ZERO.texts,
         };
         let refused = number != 0;
@@ -126,6 +76,13 @@ impl Pair {
         self.independent.waiting().text()
     }
 
+    /// The buffering time is over at this clock.
+    pub fn rested(&self, clock: u64) -> bool {
+        let buffering = self.independent.settings().buffering;
+        let last = self.independent.last_packet();
+        last.is_none_or(|last| clock - last >= buffering)
+    }
+
     /// The library's record and texts.
     pub fn held(&self) -> Held {
         self.library
@@ -139,7 +96,7 @@ impl Pair {
     /// What the library's record and texts must be.
     fn wanted(&self) -> Held {
         Held {
-            record: record(&self.independent, self.room()),
+            record: record(&self.independent, self.room(), self.times.len()),
             texts: self.texts,
         }
     }
@@ -208,29 +165,29 @@ impl Pair {
         space: Space,
         tally: &mut Tally,
     ) -> Result<Result<Option<Vec<u8>>, u8>, String> {
-        let due = match self.independent.clone().clock(clock, &mut [0; 900]) {
-            Clocked::Sent(length) => Some(length),
-            _ => None,
-        };
+        let due = self.independent.length_due(clock);
         let length = match due {
             Some(length) => space.length(random, length),
             None => random.pick(&[0, 1, 12, 59, 900]),
         };
         let mut ours = Lent::any(random, length);
         let mut theirs = ours.clone();
-        let answer = library::clock(random, &mut self.library, clock, &mut ours);
+        let answer = library::clock(random, &mut self.library, &mut self.log, clock, &mut ours);
         let clocked = self.independent.clock(clock, theirs.bytes_mut());
-        self.packets += usize::from(matches!(clocked, Clocked::Sent(_)));
         let wanted = match clocked {
             Clocked::Refused(number) => -i64::from(number),
             Clocked::Quiet => 0,
-            Clocked::Sent(length) => length as i64,
+            Clocked::Sent(length) => {
+                self.sent(clock);
+                length as i64
+            }
         };
         let what = match answer {
             Err(what) => what,
             Ok(answer) if answer != wanted => "the answers differ",
             Ok(_) if ours != theirs => "the lent bytes, or those around them, differ",
             Ok(_) if !self.same() => "the senders differ afterwards",
+            Ok(1..) if !self.same_times() => "the log does not hold the times, or more changed",
             Ok(answer) => {
                 tally.meet(space.name(), due.is_some());
                 self.met(clock, answer, tally);
@@ -243,11 +200,38 @@ impl Pair {
         };
         Err(format!(
             "a clock call at {clock} with {length} bytes: {what}\n\
-             library:     {answer:?} {}\nindependent: {wanted} {}\nafterwards\n{}",
+             library:     {answer:?} {}\nindependent: {wanted} {}\nlog: {}\nafterwards\n{}",
             hex(ours.bytes()),
             hex(theirs.bytes()),
+            self.log.difference(),
             self.states()
         ))
+    }
+
+    /// The independent sender has sent a packet. What it has left behind lies
+    /// at the front of the next slot.
+    fn sent(&mut self, clock: u64) {
+        self.packets += 1;
+        let place = self.room() * ROOM;
+        let rest = self.independent.waiting().text();
+        self.texts[place..][..rest.len()].copy_from_slice(rest);
+        let characters = self.characters(clock);
+        self.times.extend(repeat_n(clock, characters));
+    }
+
+    /// How many characters of new text were sent at this clock.
+    fn characters(&self, clock: u64) -> usize {
+        match self.independent.spent().last() {
+            Some((at, characters)) if at == clock => characters,
+            _ => 0,
+        }
+    }
+
+    /// Behind a packet the library's log holds the times of the last
+    /// characters, and else what it held.
+    fn same_times(&mut self) -> bool {
+        self.log.hold(&self.library.record, &self.times);
+        self.log.is_due()
     }
 
     fn met(&self, clock: u64, answer: i64, tally: &mut Tally) {
@@ -260,6 +244,10 @@ impl Pair {
         });
         tally.meet("packets sent from the last slot", {
             sent && self.room() == 0
+        });
+        let next = self.library.record.pace.next;
+        tally.meet("packets whose times pass the end of the log's circle", {
+            sent && 0 < next && next < self.characters(clock)
         });
     }
 }

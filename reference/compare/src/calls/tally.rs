@@ -1,5 +1,6 @@
 //! What was called and answered.
 
+use std::borrow::Cow;
 use std::collections::{BTreeMap, BTreeSet};
 use std::fmt::{self, Display, Formatter};
 
@@ -54,9 +55,9 @@ impl Call {
                 &[3, 10, 11, 12, 13, 14, 15, 16, 17, 18, 19, 20, 21],
             ),
             Call::WriteMarks => (&["none", "some"], &[]),
-            Call::SenderOpen => (&["opened"], &[1, 2, 3]),
-            Call::Offer => (&["taken"], &[1, 2, 3, 4, 5, 6, 7]),
-            Call::Clock => (&["sent", "quiet"], &[1, 2, 3, 5, 8]),
+            Call::SenderOpen => (&["opened"], &[1, 2, 3, 9]),
+            Call::Offer => (&["taken"], &[1, 2, 3, 4, 5, 6, 7, 9]),
+            Call::Clock => (&["sent", "quiet"], &[1, 2, 3, 5, 8, 9]),
         };
         let done = done.iter().map(|name| Done(name));
         done.chain(refused.iter().map(|number| Refused(*number)))
@@ -108,7 +109,7 @@ impl Display for Answer {
 #[derive(Default)]
 pub struct Tally {
     answers: BTreeMap<(Call, Answer), usize>,
-    met: BTreeMap<&'static str, usize>,
+    met: BTreeMap<Cow<'static, str>, usize>,
     flags: BTreeMap<(Call, &'static str), BTreeSet<u8>>,
 }
 
@@ -118,8 +119,8 @@ impl Tally {
     }
 
     /// One more of what must be met, where `times` is not 0.
-    pub fn meet(&mut self, what: &'static str, times: impl Into<usize>) {
-        *self.met.entry(what).or_default() += times.into();
+    pub fn meet(&mut self, what: impl Into<Cow<'static, str>>, times: impl Into<usize>) {
+        *self.met.entry(what.into()).or_default() += times.into();
     }
 
     /// A call on a record with this value in its flag was answered so.

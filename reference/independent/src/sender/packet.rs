@@ -2,34 +2,33 @@
 
 use std::mem::take;
 
-use super::Sender;
+use super::{Draft, Sender};
 use crate::block::Block;
 use crate::HEADER;
 
 impl Sender {
-    fn marker(&self) -> bool {
+    fn marker(&self, draft: &Draft) -> bool {
         if self.last_packet.is_none() {
             return true;
         }
-        let waiting = self.waiting();
         match self.last_text {
-            Some(last) if !waiting.is_empty() => waiting.clock - last > self.settings.buffering,
+            Some(last) if draft.front > 0 => self.waiting().clock - last > self.settings.buffering,
             _ => false,
         }
     }
 
-    /// The length of a packet that repeats `run` blocks.
-    pub(super) fn length(&self, run: usize) -> usize {
+    pub(super) fn length(&self, draft: &Draft) -> usize {
         let headers = match self.settings.level {
             0 => 0,
-            _ => 4 * run + 1,
+            _ => 4 * draft.run + 1,
         };
-        let repeated: usize = self.repeats(run).map(Block::len).sum();
-        HEADER + headers + repeated + self.waiting().len()
+        let repeated: usize = self.repeats(draft.run).map(Block::len).sum();
+        HEADER + headers + repeated + draft.front
     }
 
-    /// Writes a packet that repeats `run` blocks into space of its length.
-    pub(super) fn write(&self, clock: u64, run: usize, packet: &mut [u8]) {
+    /// Writes the packet into space of its length.
+    pub(super) fn write(&self, draft: &Draft, packet: &mut [u8]) {
+        let Draft { clock, run, .. } = *draft;
         let settings = &self.settings;
         let plain = settings.level == 0;
         let payload_type = if plain { settings.t140 } else { settings.red };
@@ -37,7 +36,7 @@ impl Sender {
         let mut rest = packet;
         put(
             &mut rest,
-            &[0x80, u8::from(self.marker()) << 7 | payload_type],
+            &[0x80, u8::from(self.marker(draft)) << 7 | payload_type],
         );
         put(&mut rest, &self.sequence.to_be_bytes());
         put(&mut rest, &timestamp.to_be_bytes());
@@ -54,7 +53,7 @@ impl Sender {
         for block in self.repeats(run) {
             put(&mut rest, block.text());
         }
-        put(&mut rest, self.waiting().text());
+        put(&mut rest, &self.waiting().text()[..draft.front]);
     }
 }
 

@@ -6,7 +6,7 @@ use std::ptr::addr_of_mut;
 use std::slice;
 
 use crate::library::{
-    Block, Packet, Progress, Receiver, Sender, Settings, Step, TextAnswer, Texts,
+    Block, Log, Pace, Packet, Progress, Receiver, Sender, Settings, Step, TextAnswer, Texts,
 };
 
 mod sealed {
@@ -31,7 +31,7 @@ mod sealed {
 
 use sealed::{Numbers, Place};
 
-/// A record of the library's, or a sender's texts.
+/// A record of the library's, or a sender's texts or log.
 pub trait Record: Numbers {}
 
 /// What is lent as a record: the record itself, or one that is [`Guarded`].
@@ -74,9 +74,10 @@ fields!(Step: late, loss, distance, older, given, from, to);
 fields!(Block: offset, at, len);
 fields!(Packet: marker, sequence, timestamp, source, count, older, primary, end);
 fields!(TextAnswer: is_text, characters, place);
-fields!(Settings: level, buffering, t140, red, sequence, timestamp, source);
+fields!(Settings: level, buffering, rate, t140, red, sequence, timestamp, source);
+fields!(Pace: next, used);
 fields!(Progress: sent, last, last_text, next);
-fields!(Sender: settings, clock, room, len, since, lens, ats, count, progress);
+fields!(Sender: settings, clock, room, len, characters, since, lens, ats, count, pace, progress);
 
 macro_rules! records {
     ($($record:ty),+) => {
@@ -100,7 +101,7 @@ macro_rules! records {
     };
 }
 
-records!(Receiver, Step, Packet, TextAnswer, Sender, Texts);
+records!(Receiver, Step, Packet, TextAnswer, Sender, Texts, Log);
 
 /// The words before a record, and those behind it.
 const AROUND: usize = 4;
@@ -128,19 +129,28 @@ impl<T: Record> Guarded<T> {
 
     /// Everything is filled, and so the record has any values.
     pub fn filled(mut word: impl FnMut() -> u64) -> Self {
-        const { assert!(align_of::<T>() <= align_of::<u64>()) };
         let words = (0..AROUND + Self::WORDS + AROUND).map(|_| word());
-        Guarded {
-            words: words.collect(),
-            record: PhantomData,
-        }
+        Self::of(words.collect())
     }
 
-    /// These values, and all else is filled.
-    pub fn new(value: T, word: impl FnMut() -> u64) -> Self {
-        let mut guarded = Self::filled(word);
+    /// These values, and all else is filled: what lies around them, and with
+    /// one word what lies between the fields.
+    pub fn new(value: T, mut word: impl FnMut() -> u64) -> Self {
+        let mut words = vec![word(); AROUND + Self::WORDS + AROUND];
+        let (before, rest) = words.split_at_mut(AROUND);
+        let behind = &mut rest[Self::WORDS..];
+        before.iter_mut().chain(behind).for_each(|at| *at = word());
+        let mut guarded = Self::of(words.into());
         guarded.set(value);
         guarded
+    }
+
+    fn of(words: Box<[u64]>) -> Self {
+        const { assert!(align_of::<T>() <= align_of::<u64>()) };
+        Guarded {
+            words,
+            record: PhantomData,
+        }
     }
 
     /// Gives the fields other values.
@@ -150,9 +160,19 @@ impl<T: Record> Guarded<T> {
     }
 
     pub fn value(&self) -> T {
+        *self.record()
+    }
+
+    /// The record where it lies.
+    pub fn record(&self) -> &T {
         // SAFETY: the record's place lies within the words, and any bytes are
         // a record.
-        unsafe { self.place().read() }
+        unsafe { &*self.place() }
+    }
+
+    pub fn record_mut(&mut self) -> &mut T {
+        // SAFETY: as above.
+        unsafe { &mut *self.place_mut() }
     }
 
     /// All bytes: those of the record, those between its fields, and those

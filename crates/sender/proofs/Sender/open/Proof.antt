@@ -1,9 +1,9 @@
-use Prim.Native.Nat.{ℕ}
-use mathlib.Core.Path.{_≡_, _∙_, ap, sym, refl}
-use mathlib.Core.List.{List}
+use Prim.Native.Nat.{ℕ, min}
+use mathlib.Core.Path.{_≡_, _∙_, ap, sym}
+use mathlib.Core.List.{List, []}
+use mathlib.Core.Bool.{false}
 use native.Mathlib.Omega.{arith}
 use borrow.Author.Needs.{needs}
-use Rattle.settings.specs.declared.Settings.{Settings}
 use Rattle.sender.specs.declared.Sender.{Sender}
 use Rattle.packet.specs.declared.Outcome.{Outcome}
 use Rattle.packet.specs.Refusal.{outcomeNumber}
@@ -11,10 +11,19 @@ use Rattle.packet.proofs.Names.{number-positive}
 use Rattle.delivery.specs.Numbers.{wrapped}
 use Rattle.sender_spec.proofs.Calls.{open-accepted, open-refused}
 use Rattle.settings.specs.State.{settingsOf}
+use Rattle.rate.specs.Circle.{slotsOf, slotOf, timesBack, timesIn}
 use Rattle.sender.specs.State.{stateOf}
-use Rattle.sender.specs.Opening.{freshOf, openedBy}
+use Rattle.sender.specs.Opening.{openedBy}
 use Rattle.sender.proofs.Sender.open.Statement.{statement}
 use Rattle.sender.proofs.Sender.open.Tie as tie
+
+-- the first sequence number has 16 bits
+first : (c : tie.Start) → c .args .settings .sequence ≡ wrapped (c .args .settings .sequence)
+first c = omega arith
+
+-- no slot was used
+times-none : (n : ℕ) (log : List ℕ) → timesIn n log 0 0 ≡ []
+times-none n log = let z : min 0 n ≡ 0 = omega arith in ap (timesBack n log (slotOf n 0)) z
 
 settings-outcome-requires : tie.Need-settings-outcome-requires
 settings-outcome-requires c κs = search needs
@@ -33,24 +42,26 @@ zeros-requires c κs = search needs
 
 returns : tie.Need-returns
 returns c =
-    let s = c .before .before .before .before .args .settings in
+    let start = c .before .before .before .before in
+    let s = start .args .settings in
     let r = c .before .before .before .settings-outcome in
     let e = c .before .enum-told .given .1 in
-    let first : s .sequence ≡ wrapped (s .sequence) = omega arith in
     record {
-      result = λ texts.
-          ap (λ (x : Sender). record { number = outcomeNumber (r .result); sender = stateOf x texts }) (c .fresh .ensures)
-          ∙ ap (λ (n : ℕ). record {
+      result = λ texts log.
+          ap (λ (x : Sender). record { number = outcomeNumber (r .result); sender = stateOf x texts log }) (c .fresh .ensures)
+          ∙ (λ i. record {
             number = outcomeNumber (r .result);
             sender = record {
               settings = settingsOf s;
               clock = 0;
-              waiting = stateOf (freshOf s) texts .waiting;
+              waiting = [];
+              characters = 0;
               since = 0;
-              kept = stateOf (freshOf s) texts .kept;
-              progress = record { sent = stateOf (freshOf s) texts .progress .sent; last = 0; lastText = 0; next = n };
+              kept = [];
+              times = times-none (slotsOf (s .rate)) log i;
+              progress = record { sent = false; last = 0; lastText = 0; next = first start i };
             };
-          }) first
+          })
           ∙ sym (open-accepted (settingsOf s) (outcomeNumber (r .result)) (r .ensures) (ap outcomeNumber e));
       fields = c .fresh .ensures ∙ ap (λ (o : Outcome). openedBy o s) (sym e);
     }
@@ -61,8 +72,8 @@ returns-2 c =
     let r = c .before .before .before .settings-outcome in
     let e = c .before .enum-told2 .given in
     record {
-      result = λ texts.
-          ap (λ (x : Sender). record { number = outcomeNumber (r .result); sender = stateOf x texts }) (c .zeros .ensures)
+      result = λ texts log.
+          ap (λ (x : Sender). record { number = outcomeNumber (r .result); sender = stateOf x texts log }) (c .zeros .ensures)
           ∙ sym (open-refused (settingsOf s) (outcomeNumber (r .result)) (r .ensures) (rw (ap outcomeNumber (e .1)) (number-positive (e .0 .0))));
       fields = c .zeros .ensures ∙ ap (λ (o : Outcome). openedBy o s) (sym (e .1));
     }

@@ -22,7 +22,7 @@ returns c =
       ats = s .kept .ats;
       count = s .kept .count;
       room = s .waiting .room;
-      len = s .waiting .len;
+      len = a .len;
     }
 
 pub draft-spec : {M : Type 1} → statement M

@@ -10,7 +10,7 @@ returns : tie.Need-returns
 returns c =
     let a = c .before .before .before .args in
     let s = a .sender in
-    λ i. record { settings = s .settings; clock = a .clock; waiting = c .joined .ensures i; kept = s .kept; progress = s .progress }
+    λ i. record { settings = s .settings; clock = a .clock; waiting = c .joined .ensures i; kept = s .kept; pace = s .pace; progress = s .progress }
 
 pub with-spec : {M : Type 1} → statement M
 with-spec = tie.close (tie.spec joined-requires returns)

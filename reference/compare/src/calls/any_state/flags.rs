@@ -4,11 +4,11 @@
 use super::super::held::Held;
 use super::super::tally::{Answer, Tally};
 use super::receivers::step_of;
-use super::sender;
 use super::senders::{clock_call_on, offer_to};
+use super::{log, sender};
 use crate::plan::{Plan, RED, T140};
 use crate::random::Random;
-use stewpigeon::lent::{Progress, Receiver, Sender, Settings};
+use stewpigeon::lent::{Pace, Progress, Receiver, Sender, Settings};
 
 fn same(answer: Answer, due: Answer) -> Result<(), String> {
     match answer == due {
@@ -55,7 +55,7 @@ fn steps(random: &mut Random, has_source: u8, tally: &mut Tally) -> Result<(), S
 }
 
 /// A sender of anything else with this flag, whose last packet was sent at
-/// its clock.
+/// its clock, and no character yet.
 fn flagged(random: &mut Random, sent: u8) -> Held {
     let held = sender(random);
     let clock = random.number() >> 1;
@@ -63,11 +63,16 @@ fn flagged(random: &mut Random, sent: u8) -> Held {
         settings: Settings {
             level: random.below(5),
             buffering: random.within(1, 500) as u64,
+            rate: random.within(16, 100),
             t140: T140,
             red: RED,
             ..held.record.settings
         },
         clock,
+        pace: Pace {
+            used: 0,
+            ..held.record.pace
+        },
         progress: Progress {
             sent,
             last: clock,
@@ -91,6 +96,7 @@ fn offers(random: &mut Random, sent: u8, tally: &mut Tally) -> Result<(), String
 fn clock_calls(random: &mut Random, sent: u8, tally: &mut Tally) -> Result<(), String> {
     let mut held = flagged(random, sent);
     let (clock, buffering) = (held.record.clock, held.record.settings.buffering);
+    let log = log(random, clock);
     held.record.len = random.within(1, 160);
     // Text waits, and may go at once or when the buffering time is over.
     let early = match sent {
@@ -104,11 +110,11 @@ fn clock_calls(random: &mut Random, sent: u8, tally: &mut Tally) -> Result<(), S
         (clock + buffering, 12, Answer::Refused(8)),
         (clock.wrapping_sub(1), 900, Answer::Refused(5)),
     ] {
-        same(clock_call_on(random, &held, at, space, tally)?, due)?;
+        same(clock_call_on(random, &held, &log, at, space, tally)?, due)?;
     }
     // Nothing waits, and nothing is to be repeated.
     (held.record.len, held.record.count) = (0, 0);
-    let quiet = clock_call_on(random, &held, clock + buffering, 900, tally)?;
+    let quiet = clock_call_on(random, &held, &log, clock + buffering, 900, tally)?;
     same(quiet, Answer::Done("quiet"))
 }
 

@@ -31,7 +31,7 @@ fn size(random: &mut Random, bound: usize) -> usize {
 fn time(random: &mut Random, clock: u64) -> u64 {
     let any = random.number();
     let near = random.within(0, 1000) as u64;
-    let ago = random.pick(&[0, 1, 300, 500, near, 16_383, 16_384]);
+    let ago = random.pick(&[0, 1, 300, 500, near, 10_000, 10_001, 16_383, 16_384]);
     match random.below(8) {
         0 => any,
         1 => clock.saturating_add(near),
@@ -52,6 +52,7 @@ fn settings(random: &mut Random) -> lent::Settings {
     let mut settings = lent::Settings {
         level: size(random, 4),
         buffering: random.pick(&[0, 1, 300, 500, 501, any]),
+        rate: size(random, 100),
         t140: random.byte(),
         red: random.byte(),
         sequence: random.number() as u16,
@@ -66,6 +67,10 @@ fn settings(random: &mut Random) -> lent::Settings {
         settings.buffering = random.within(1, 500) as u64;
     }
     if !random.once_in(8) {
+        let any = random.within(1, 100);
+        settings.rate = random.pick(&[1, 2, 30, 100, any]);
+    }
+    if !random.once_in(8) {
         settings.t140 = random.within(96, 111) as u8;
         settings.red = random.within(112, 127) as u8;
     }
@@ -76,15 +81,22 @@ fn settings(random: &mut Random) -> lent::Settings {
 pub fn sender(random: &mut Random) -> Held {
     let any = random.number();
     let clock = random.pick(&[0, 1000, 20_000, any, u64::MAX - 600, u64::MAX]);
+    let settings = settings(random);
+    let slots = 10 * settings.rate.clamp(1, 100);
     let record = lent::Sender {
-        settings: settings(random),
+        settings,
         clock,
         room: size(random, LEVEL),
         len: size(random, ROOM),
+        characters: size(random, ROOM),
         since: time(random, clock),
         lens: [(); LEVEL].map(|()| size(random, ROOM)),
         ats: [(); LEVEL].map(|()| time(random, clock)),
         count: size(random, LEVEL),
+        pace: lent::Pace {
+            next: size(random, slots),
+            used: size(random, slots),
+        },
         progress: lent::Progress {
             sent: flag(random),
             last: time(random, clock),
@@ -99,8 +111,22 @@ pub fn sender(random: &mut Random) -> Held {
 /// Texts of any bytes.
 pub fn texts(random: &mut Random) -> lent::Texts {
     let mut texts = [0; SLOTS * ROOM];
-    texts.fill_with(|| random.byte());
+    random.fill(&mut texts);
     texts
+}
+
+/// A log of few times in any order, before, at and after this one.
+fn log(random: &mut Random, clock: u64) -> lent::Log {
+    let times = [(); 8].map(|()| time(random, clock));
+    let mut log = [0; 1000];
+    for slots in log.chunks_mut(20) {
+        let mut places = random.number();
+        for slot in slots {
+            *slot = times[places as usize % 8];
+            places >>= 3;
+        }
+    }
+    log
 }
 
 pub fn run(random: &mut Random, calls: usize, tally: &mut Tally) -> Result<(), String> {

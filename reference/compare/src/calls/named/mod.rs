@@ -1,6 +1,7 @@
 //! The scope paper's line tests and other cases by name, on the library and
 //! the independent program together, with what the paper says of them.
 
+mod rates;
 mod receiving;
 mod sending;
 
@@ -26,7 +27,8 @@ fn same<T: PartialEq + Debug>(seen: T, said: T) -> Result<(), String> {
 }
 
 fn cases() -> impl Iterator<Item = &'static Case> {
-    receiving::CASES.iter().chain(&sending::CASES)
+    let sending = sending::CASES.iter().chain(&rates::CASES);
+    receiving::CASES.iter().chain(sending)
 }
 
 /// Runs all cases.

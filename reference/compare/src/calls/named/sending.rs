@@ -19,9 +19,10 @@ pub const CASES: [Case; 9] = [
     ("the longest packet, 829 bytes", longest),
 ];
 
-const USUAL: Settings = Settings {
+pub const USUAL: Settings = Settings {
     level: 2,
     buffering: 300,
+    rate: 30,
     t140: 98,
     red: 100,
     sequence: 65_535,
@@ -38,22 +39,27 @@ fn open(given: &mut Given<'_>, level: usize, buffering: u64) -> Result<Pair, Str
     Pair::open(given.random, &settings, given.tally)
 }
 
-fn offer(given: &mut Given<'_>, pair: &mut Pair, clock: u64, text: &[u8]) -> Result<u8, String> {
+pub fn offer(
+    given: &mut Given<'_>,
+    pair: &mut Pair,
+    clock: u64,
+    text: &[u8],
+) -> Result<u8, String> {
     pair.offer(given.random, clock, text, given.tally)
 }
 
 /// A clock call's answer: the packet, nothing, or a refusal's number.
-type Clocked = Result<Option<Vec<u8>>, u8>;
+pub type Clocked = Result<Option<Vec<u8>>, u8>;
 
-fn clock(given: &mut Given<'_>, pair: &mut Pair, clock: u64) -> Result<Clocked, String> {
+pub fn clock(given: &mut Given<'_>, pair: &mut Pair, clock: u64) -> Result<Clocked, String> {
     pair.clock(given.random, clock, Space::Exact, given.tally)
 }
 
 /// Sequence, marker, offsets and texts of the older blocks, and the primary.
-type Seen = (u16, bool, Vec<(u16, Vec<u8>)>, Vec<u8>);
+pub type Seen = (u16, bool, Vec<(u16, Vec<u8>)>, Vec<u8>);
 
 /// What a packet sent holds; nothing where the call is quiet.
-fn seen(given: &mut Given<'_>, pair: &mut Pair, at: u64) -> Result<Option<Seen>, String> {
+pub fn seen(given: &mut Given<'_>, pair: &mut Pair, at: u64) -> Result<Option<Seen>, String> {
     let answer = clock(given, pair, at)?.map_err(|number| format!("refused {number}"))?;
     let Some(packet) = answer else {
         return Ok(None);
@@ -134,10 +140,17 @@ fn marker(given: &mut Given<'_>) -> Result<(), String> {
 }
 
 fn zero_sender(given: &mut Given<'_>) -> Result<(), String> {
-    for (level, buffering, t140) in [(5, 0, 0), (4, 0, 0), (4, 501, 98), (4, 300, 100)] {
+    for (level, buffering, t140, rate) in [
+        (5, 0, 0, 0),
+        (4, 0, 0, 0),
+        (4, 501, 98, 30),
+        (4, 300, 100, 101),
+        (4, 300, 98, 101),
+    ] {
         let settings = Settings {
             level,
             buffering,
+            rate,
             t140,
             ..USUAL
         };
@@ -187,15 +200,22 @@ fn near_the_end(given: &mut Given<'_>) -> Result<(), String> {
     Ok(())
 }
 
+/// So far apart that the rate holds nothing back.
 fn longest(given: &mut Given<'_>) -> Result<(), String> {
-    let mut pair = open(given, 4, 1)?;
-    for at in 0..20 {
+    let settings = Settings {
+        level: 4,
+        rate: 100,
+        ..USUAL
+    };
+    let mut pair = Pair::open(given.random, &settings, given.tally)?;
+    for sent in 0..20 {
+        let at = 2000 * sent as u64;
         let text = given.random.text(160);
         same(offer(given, &mut pair, at, &text)?, 0)?;
         let short = pair.clock(given.random, at, Space::OneShort, given.tally)?;
         same(short, Err(8))?;
         let packet = clock(given, &mut pair, at)?;
-        let blocks = 5.min(at as usize + 1);
+        let blocks = 5.min(sent + 1);
         let due = 12 + 4 * (blocks - 1) + 1 + 160 * blocks;
         same(
             packet.map(|sent| sent.map(|sent| sent.len())),
