@@ -1,5 +1,8 @@
 //! The rate: what is sent and when, packet by packet, worked out by hand.
 
+mod common;
+
+use common::sent;
 use independent::sender::{Clocked, Sender, Settings};
 
 /// One character a second, and so ten in ten seconds.
@@ -16,19 +19,6 @@ const SLOW: Settings = Settings {
 
 fn open(settings: Settings) -> Sender {
     Sender::open(settings).unwrap()
-}
-
-/// The packet sent at this clock; no packet if quiet.
-fn sent(sender: &mut Sender, clock: u64) -> Option<Vec<u8>> {
-    let mut space = vec![0; 900];
-    match sender.clock(clock, &mut space) {
-        Clocked::Refused(number) => panic!("refused {number}"),
-        Clocked::Quiet => None,
-        Clocked::Sent(length) => {
-            space.truncate(length);
-            Some(space)
-        }
-    }
 }
 
 fn all_quiet(sender: &mut Sender, clocks: &[u64]) {

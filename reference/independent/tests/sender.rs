@@ -1,5 +1,8 @@
 //! The sender's line tests, its refusals and its bounds.
 
+mod common;
+
+use common::sent;
 use independent::sender::{Clocked, Sender, Settings};
 use independent::{read, Packet};
 
@@ -21,19 +24,6 @@ fn open(level: usize, buffering: u64) -> Sender {
         ..USUAL
     })
     .unwrap()
-}
-
-/// The packet sent at this clock; no packet if quiet.
-fn sent(sender: &mut Sender, clock: u64) -> Option<Vec<u8>> {
-    let mut space = vec![0; 900];
-    match sender.clock(clock, &mut space) {
-        Clocked::Refused(number) => panic!("refused {number}"),
-        Clocked::Quiet => None,
-        Clocked::Sent(length) => {
-            space.truncate(length);
-            Some(space)
-        }
-    }
 }
 
 fn seen(packet: &[u8]) -> Packet<'_> {
