@@ -11,7 +11,7 @@ use Rattle.packet.specs.Refusal.{outcomeNumber}
 use Rattle.sender_spec.specs.Limits.{roomSize}
 use Rattle.sender_spec.specs.State as State
 use Rattle.sender_spec.specs.Calls.{offerOf}
-use Rattle.slots.specs.Slots.{textsSize, roomOf, waitingIn, written}
+use Rattle.slots.specs.Slots.{textsSize, roomOf, waitingIn, overAt}
 use Rattle.settings.specs.declared.Settings.{Settings}
 use Rattle.settings.specs.State.{settingsOf}
 use Rattle.offer.specs.declared.Offered.{Offered}
@@ -44,7 +44,7 @@ abbrev pub endOf : ℕ → ℕ → ℕ
 endOf room len = roomOf room * roomSize + min len roomSize
 
 abbrev pub textsBy : Outcome → ℕ → ℕ → List ℕ → List ℕ → List ℕ
-textsBy Accepted room len x texts = written (endOf room len) x texts
+textsBy Accepted room len x texts = overAt (endOf room len) x texts
 textsBy (Refused r) room len x texts = texts
 
 abbrev pub charactersBy : Outcome → List ℕ → ℕ

@@ -3,7 +3,7 @@ ghost use mathlib.Core.Path.{_≡_};
 ghost use lib.ListN.{length};
 ghost use Prim.Native.Nat.{_+_, _≤_};
 ghost use Rattle.packet.specs.Refusal.{isRefused};
-ghost use Rattle.slots.specs.Slots.{textsSize, written};
+ghost use Rattle.slots.specs.Slots.{textsSize, overAt};
 ghost use Rattle.offer.specs.Offer.{outcomeOf, charactersOf, Judges};
 use numbers::least;
 use packet::Outcome;
@@ -52,7 +52,7 @@ impl Offered {
 // Writes text at a place of the texts.
 fn put(texts: &mut [u8], at: usize, text: &[u8])
     requires { ⌜ at + length (now text) ≤ length (now texts) ⌝ }
-    ensures { λ _. ⌜ now (texts .exit) ≡ written at (now (text .entry)) (now (texts .entry)) ⌝ }
+    ensures { λ _. ⌜ now (texts .exit) ≡ overAt at (now (text .entry)) (now (texts .entry)) ⌝ }
 {
     bytes::copy(text, &mut texts[at..]);
 }

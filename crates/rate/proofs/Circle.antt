@@ -9,30 +9,30 @@ use lib.ListN.{set}
 use borrow.Author.Tests.{lt-ltb, le-ltb, ltb-true, ltb-false}
 use Rattle.base.proofs.Tests.{by-test}
 use Rattle.sender_spec.specs.Limits.{highestRate}
-use Rattle.rate.specs.Circle.{slotsOf, slotOf, slotBack, wrapped, spentFrom}
+use Rattle.rate.specs.Circle.{slotsOf, slotAt, slotBack, around, spentFrom}
 
 -- a rate that is accepted has a slot for each character of the window
 pub slots-limit : (rate : ℕ) → rate ≤ highestRate → slotsOf rate ≡ 10 * rate
 slots-limit rate h = omega arith
 
 module _ (n : ℕ) where
-  pub slot-same : (at : ℕ) → at < n → slotOf n at ≡ at
+  pub slot-same : (at : ℕ) → at < n → slotAt n at ≡ at
   slot-same at h = rw (lt-ltb at n h)
 
-  pub slot-inside : (next : ℕ) → 0 < n → slotOf n next < n
+  pub slot-inside : (next : ℕ) → 0 < n → slotAt n next < n
   slot-inside next h = by-test (λ (k : ℕ). k < n) (ltb next n) (λ e. ltb-true next n e) (λ e. h)
 
-  pub slot-within : (next : ℕ) → slotOf n next ≤ n
+  pub slot-within : (next : ℕ) → slotAt n next ≤ n
   slot-within next = by-test (λ (k : ℕ). k ≤ n) (ltb next n) (λ e. let h : next < n = ltb-true next n e in omega arith) (λ e. omega arith)
 
-  pub wrapped-stays : (at : ℕ) → at < n → wrapped n at ≡ at
-  wrapped-stays at h = rw (lt-ltb at n h)
+  pub around-stays : (at : ℕ) → at < n → around n at ≡ at
+  around-stays at h = rw (lt-ltb at n h)
 
-  pub wrapped-back : (at : ℕ) → n ≤ at → wrapped n at ≡ at - n
-  wrapped-back at h = rw (le-ltb at n h)
+  pub around-back : (at : ℕ) → n ≤ at → around n at ≡ at - n
+  around-back at h = rw (le-ltb at n h)
 
-  pub wrapped-inside : (at : ℕ) → at < n + n → wrapped n at < n
-  wrapped-inside at h =
+  pub around-inside : (at : ℕ) → at < n + n → around n at < n
+  around-inside at h =
       by-test (λ (k : ℕ). k < n) (ltb at n) (λ e. ltb-true at n e) (λ e. let l : n ≤ at = ltb-false at n e in omega arith)
 
   pub back-before : (at j : ℕ) → j < at → slotBack n at j ≡ at - 1 - j
@@ -42,18 +42,18 @@ module _ (n : ℕ) where
   back-round at j h = rw (le-ltb j at h)
 
   -- the slot that the k-th character would take is the one n - k + 1 before
-  pub back-ahead : (at k : ℕ) → at < n → 0 < k → k ≤ n → slotBack n at (n - k) ≡ wrapped n (at + k - 1)
+  pub back-ahead : (at k : ℕ) → at < n → 0 < k → k ≤ n → slotBack n at (n - k) ≡ around n (at + k - 1)
   back-ahead at k h some few = go (ltb (n - k) at) refl
     where
-      go : (b : Bool) → ltb (n - k) at ≡ b → slotBack n at (n - k) ≡ wrapped n (at + k - 1)
+      go : (b : Bool) → ltb (n - k) at ≡ b → slotBack n at (n - k) ≡ around n (at + k - 1)
       go true e =
           let l : n - k < at = ltb-true (n - k) at e in
-          back-before at (n - k) l ∙ omega (arith, wrapped-back (at + k - 1) (omega arith))
+          back-before at (n - k) l ∙ omega (arith, around-back (at + k - 1) (omega arith))
       go false e =
           let l : at ≤ n - k = ltb-false (n - k) at e in
-          back-round at (n - k) l ∙ omega (arith, wrapped-stays (at + k - 1) (omega arith))
+          back-round at (n - k) l ∙ omega (arith, around-stays (at + k - 1) (omega arith))
 
   -- the first of k slots
-  pub spent-on : (log : List ℕ) (at t k : ℕ) → 0 < k → spentFrom n (set log at t) (wrapped n (at + 1)) t (k - 1) ≡ spentFrom n log at t k
+  pub spent-on : (log : List ℕ) (at t k : ℕ) → 0 < k → spentFrom n (set log at t) (around n (at + 1)) t (k - 1) ≡ spentFrom n log at t k
   spent-on log at t zero h = absurd (omega arith)
-  spent-on log at t (suc k) h = let e : suc k - 1 ≡ k = omega arith in ap (spentFrom n (set log at t) (wrapped n (at + 1)) t) e
+  spent-on log at t (suc k) h = let e : suc k - 1 ≡ k = omega arith in ap (spentFrom n (set log at t) (around n (at + 1)) t) e

@@ -1,3 +1,3 @@
 pub mod Circle
-pub mod Allowed
+pub mod Fits
 pub mod Spent

@@ -10,8 +10,8 @@ use lib.Seq.{take-all, take-take, getD-set-same, getD-set-other}
 use borrow.Author.Tests.{ltb-true, ltb-false}
 use Rattle.delivery.specs.Sending.{range}
 use Rattle.delivery.proofs.Ranges.{length-map-range}
-use Rattle.rate.specs.Circle.{slotOf, slotBack, timesBack, timesIn, wrapped, spentFrom, spentIn, nextAfter, usedAfter}
-use Rattle.rate.proofs.Circle.{slot-same, slot-inside, wrapped-stays, wrapped-back, wrapped-inside, back-before, back-round}
+use Rattle.rate.specs.Circle.{slotAt, slotBack, timesBack, timesIn, around, spentFrom, spentIn, nextAfter, usedAfter}
+use Rattle.rate.proofs.Circle.{slot-same, slot-inside, around-stays, around-back, around-inside, back-before, back-round}
 
 -- ranges
 module _ {A : Type 0} where
@@ -47,27 +47,27 @@ module _ {A : Type 0} where
 
 -- from a slot to the next
 module _ (n at : ℕ) (h : at < n) where
-  by-end : {P : Type 0} → (at + 1 < n → wrapped n (at + 1) ≡ at + 1 → P) → (at + 1 ≡ n → wrapped n (at + 1) ≡ 0 → P) → P
+  by-end : {P : Type 0} → (at + 1 < n → around n (at + 1) ≡ at + 1 → P) → (at + 1 ≡ n → around n (at + 1) ≡ 0 → P) → P
   by-end {P} f g = go (ltb (at + 1) n) refl
     where
       go : (b : Bool) → ltb (at + 1) n ≡ b → P
-      go true e = let l : at + 1 < n = ltb-true (at + 1) n e in f l (wrapped-stays n (at + 1) l)
+      go true e = let l : at + 1 < n = ltb-true (at + 1) n e in f l (around-stays n (at + 1) l)
       go false e =
           let l : n ≤ at + 1 = ltb-false (at + 1) n e in
-          let w : wrapped n (at + 1) ≡ at + 1 - n = wrapped-back n (at + 1) l in
+          let w : around n (at + 1) ≡ at + 1 - n = around-back n (at + 1) l in
           g (omega arith) (omega arith)
 
-  wrapped-again : (k : ℕ) → k < n → wrapped n (wrapped n (at + 1) + k) ≡ wrapped n (at + suc k)
-  wrapped-again k few = by-end
-      (λ l e. let p : at + 1 + k ≡ at + suc k = omega arith in ap (λ (i : ℕ). wrapped n (i + k)) e ∙ ap (wrapped n) p)
-      (λ l e. ap (λ (i : ℕ). wrapped n (i + k)) e ∙ omega (arith, wrapped-stays n (0 + k) (omega arith), wrapped-back n (at + suc k) (omega arith)))
+  around-again : (k : ℕ) → k < n → around n (around n (at + 1) + k) ≡ around n (at + suc k)
+  around-again k few = by-end
+      (λ l e. let p : at + 1 + k ≡ at + suc k = omega arith in ap (λ (i : ℕ). around n (i + k)) e ∙ ap (around n) p)
+      (λ l e. ap (λ (i : ℕ). around n (i + k)) e ∙ omega (arith, around-stays n (0 + k) (omega arith), around-back n (at + suc k) (omega arith)))
 
-  back-here : slotBack n (wrapped n (at + 1)) 0 ≡ at
+  back-here : slotBack n (around n (at + 1)) 0 ≡ at
   back-here = by-end
       (λ l e. ap (λ (i : ℕ). slotBack n i 0) e ∙ omega (arith, back-before n (at + 1) 0 (omega arith)))
       (λ l e. ap (λ (i : ℕ). slotBack n i 0) e ∙ omega (arith, back-round n 0 0 (omega arith)))
 
-  back-on : (j : ℕ) → suc j < n → slotBack n (wrapped n (at + 1)) (suc j) ≡ slotBack n at j
+  back-on : (j : ℕ) → suc j < n → slotBack n (around n (at + 1)) (suc j) ≡ slotBack n at j
   back-on j k = by-end
       (λ l e. ap (λ (i : ℕ). slotBack n i (suc j)) e ∙ go (ltb j at) refl)
       (λ l e. ap (λ (i : ℕ). slotBack n i (suc j)) e ∙ omega (arith, back-round n 0 (suc j) (omega arith), back-before n at j (omega arith)))
@@ -85,7 +85,7 @@ module _ (n at : ℕ) (h : at < n) where
 
 -- one character leaves
 one-spent : (n t : ℕ) (log : List ℕ) (at used : ℕ) → at < n → n ≤ length log
-    → timesBack n (set log at t) (wrapped n (at + 1)) (min (used + 1) n) ≡ take n (t ∷ timesBack n log at (min used n))
+    → timesBack n (set log at t) (around n (at + 1)) (min (used + 1) n) ≡ take n (t ∷ timesBack n log at (min used n))
 one-spent n t log at used h long =
     let m = min used (n - 1) in
     let count : min (used + 1) n ≡ suc m = omega arith in
@@ -98,7 +98,7 @@ one-spent n t log at used h long =
     ∙ ap (λ (k : ℕ). take k (t ∷ timesBack n log at (min used n))) whole
   where
     next : ℕ
-    next = wrapped n (at + 1)
+    next = around n (at + 1)
 
     new : ℕ → ℕ
     new j = getD (set log at t) (slotBack n next j) 0
@@ -115,37 +115,37 @@ one-spent n t log at used h long =
 
 -- k characters leave
 all-spent : (n t k : ℕ) (log : List ℕ) (at used : ℕ) → k ≤ n → at < n → n ≤ length log
-    → timesBack n (spentFrom n log at t k) (wrapped n (at + k)) (min (used + k) n) ≡ take n (replicate k t ++ timesBack n log at (min used n))
+    → timesBack n (spentFrom n log at t k) (around n (at + k)) (min (used + k) n) ≡ take n (replicate k t ++ timesBack n log at (min used n))
 all-spent n t zero log at used few h long =
     let a : at + 0 ≡ at = omega arith in
     let u : used + 0 ≡ used = omega arith in
     let e : length (timesBack n log at (min used n)) ≡ min used n = length-map-range (λ j. getD log (slotBack n at j) 0) 0 (min used n) in
-    ap (λ (i : ℕ). timesBack n log (wrapped n i) (min (used + 0) n)) a
-    ∙ ap (λ (i : ℕ). timesBack n log i (min (used + 0) n)) (wrapped-stays n at h)
+    ap (λ (i : ℕ). timesBack n log (around n i) (min (used + 0) n)) a
+    ∙ ap (λ (i : ℕ). timesBack n log i (min (used + 0) n)) (around-stays n at h)
     ∙ ap (λ (i : ℕ). timesBack n log at (min i n)) u
     ∙ sym (take-all n (timesBack n log at (min used n)) (omega arith))
 all-spent n t (suc k) log at used few h long =
     let u : used + suc k ≡ used + 1 + k = omega arith in
     let l : n ≤ length (set log at t) = omega (arith, length-set log at t) in
-    let b : wrapped n (at + 1) < n = wrapped-inside n (at + 1) (omega arith) in
-    ap (λ (i : ℕ). timesBack n after i (min (used + suc k) n)) (sym (wrapped-again n at h k (omega arith)))
-    ∙ ap (λ (i : ℕ). timesBack n after (wrapped n (wrapped n (at + 1) + k)) (min i n)) u
-    ∙ all-spent n t k (set log at t) (wrapped n (at + 1)) (used + 1) (omega arith) b l
+    let b : around n (at + 1) < n = around-inside n (at + 1) (omega arith) in
+    ap (λ (i : ℕ). timesBack n after i (min (used + suc k) n)) (sym (around-again n at h k (omega arith)))
+    ∙ ap (λ (i : ℕ). timesBack n after (around n (around n (at + 1) + k)) (min i n)) u
+    ∙ all-spent n t k (set log at t) (around n (at + 1)) (used + 1) (omega arith) b l
     ∙ ap (λ (x : List ℕ). take n (replicate k t ++ x)) (one-spent n t log at used h long)
     ∙ take-front (replicate k t) (t ∷ timesBack n log at (min used n)) n n (omega arith)
     ∙ ap (take n) (replicate-behind k t (timesBack n log at (min used n)))
   where
     after : List ℕ
-    after = spentFrom n (set log at t) (wrapped n (at + 1)) t k
+    after = spentFrom n (set log at t) (around n (at + 1)) t k
 
 pub spent-times : (n : ℕ) (log : List ℕ) (next used t k : ℕ) → k ≤ n → 0 < n → n ≤ length log
     → timesIn n (spentIn n log next t k) (nextAfter n next k) (usedAfter n used k) ≡ take n (replicate k t ++ timesIn n log next used)
 spent-times n log next used t k few some long =
-    let at = slotOf n next in
+    let at = slotAt n next in
     let h : at < n = slot-inside n next some in
     let e : min k n ≡ k = omega arith in
     let m : min (min (used + k) n) n ≡ min (used + k) n = omega arith in
-    ap (λ (i : ℕ). timesIn n (spentFrom n log at t i) (wrapped n (at + i)) (usedAfter n used k)) e
-    ∙ ap (λ (i : ℕ). timesBack n (spentFrom n log at t k) i (min (usedAfter n used k) n)) (slot-same n (wrapped n (at + k)) (wrapped-inside n (at + k) (omega arith)))
-    ∙ ap (timesBack n (spentFrom n log at t k) (wrapped n (at + k))) m
+    ap (λ (i : ℕ). timesIn n (spentFrom n log at t i) (around n (at + i)) (usedAfter n used k)) e
+    ∙ ap (λ (i : ℕ). timesBack n (spentFrom n log at t k) i (min (usedAfter n used k) n)) (slot-same n (around n (at + k)) (around-inside n (at + k) (omega arith)))
+    ∙ ap (timesBack n (spentFrom n log at t k) (around n (at + k))) m
     ∙ all-spent n t k log at used few h long

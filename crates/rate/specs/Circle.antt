@@ -17,8 +17,8 @@ abbrev pub logSize : ℕ
 logSize = slotsOf highestRate
 
 -- the next slot; 0 where the number is none of a slot
-abbrev pub slotOf : ℕ → ℕ → ℕ
-slotOf n next = cond (ltb next n) next 0
+abbrev pub slotAt : ℕ → ℕ → ℕ
+slotAt n next = cond (ltb next n) next 0
 
 -- the slot j + 1 before
 abbrev pub slotBack : ℕ → ℕ → ℕ → ℕ
@@ -29,23 +29,23 @@ abbrev pub timesBack : ℕ → List ℕ → ℕ → ℕ → List ℕ
 timesBack n log at m = map (λ j. getD log (slotBack n at j) 0) (range 0 m)
 
 abbrev pub timesIn : ℕ → List ℕ → ℕ → ℕ → List ℕ
-timesIn n log next used = timesBack n log (slotOf n next) (min used n)
+timesIn n log next used = timesBack n log (slotAt n next) (min used n)
 
 -- a place that is at most a whole circle further than a slot
-abbrev pub wrapped : ℕ → ℕ → ℕ
-wrapped n at = cond (ltb at n) at (at - n)
+abbrev pub around : ℕ → ℕ → ℕ
+around n at = cond (ltb at n) at (at - n)
 
 -- k slots in a row
 abbrev pub spentFrom : ℕ → List ℕ → ℕ → ℕ → ℕ → List ℕ
 spentFrom n log at t zero = log
-spentFrom n log at t (suc k) = spentFrom n (set log at t) (wrapped n (at + 1)) t k
+spentFrom n log at t (suc k) = spentFrom n (set log at t) (around n (at + 1)) t k
 
 -- behind k characters that left at t; more than n count as n
 abbrev pub spentIn : ℕ → List ℕ → ℕ → ℕ → ℕ → List ℕ
-spentIn n log next t k = spentFrom n log (slotOf n next) t (min k n)
+spentIn n log next t k = spentFrom n log (slotAt n next) t (min k n)
 
 abbrev pub nextAfter : ℕ → ℕ → ℕ → ℕ
-nextAfter n next k = wrapped n (slotOf n next + min k n)
+nextAfter n next k = around n (slotAt n next + min k n)
 
 abbrev pub usedAfter : ℕ → ℕ → ℕ → ℕ
 usedAfter n used k = min (used + k) n

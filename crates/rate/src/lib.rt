@@ -3,7 +3,7 @@ ghost use mathlib.Core.Path.{_≡_};
 ghost use lib.ListN.{length};
 ghost use Prim.Native.Nat.{_-_, _≤_, _<_, min};
 ghost use Rattle.sender_spec.specs.Rate.{fits, allowed};
-ghost use Rattle.rate.specs.Circle.{slotsOf, logSize, slotOf, timesBack, timesIn, wrapped, spentIn, paceAfter};
+ghost use Rattle.rate.specs.Circle.{slotsOf, logSize, slotAt, timesBack, timesIn, around, spentIn, paceAfter};
 use settings::Settings;
 
 // The lent times, in a circle of slots.
@@ -24,8 +24,8 @@ fn slots_of(rate: usize) -> usize
 }
 
 // The next slot; 0 where the number is none of a slot.
-fn slot_of(slots: usize, next: usize) -> usize
-    ensures { λ r. ⌜ r ≡ slotOf slots next ⌝ }
+fn slot_at(slots: usize, next: usize) -> usize
+    ensures { λ r. ⌜ r ≡ slotAt slots next ⌝ }
 {
     if next < slots {
         return next;
@@ -34,8 +34,8 @@ fn slot_of(slots: usize, next: usize) -> usize
 }
 
 // A place behind a slot, by at most a whole circle.
-fn wrapped(slots: usize, at: usize) -> usize
-    ensures { λ r. ⌜ r ≡ wrapped slots at ⌝ }
+fn around(slots: usize, at: usize) -> usize
+    ensures { λ r. ⌜ r ≡ around slots at ⌝ }
 {
     if at < slots {
         return at;
@@ -58,7 +58,7 @@ fn may_leave(
     if used <= slots - characters {
         return true;
     }
-    let slot = wrapped(slots, at + characters - 1);
+    let slot = around(slots, at + characters - 1);
     Log::WINDOW < numbers::passed(clock, log[slot])
 }
 
@@ -66,11 +66,11 @@ fn spend_in(slots: usize, log: &mut [u64], next: usize, clock: u64, characters: 
     requires { ⌜ (slots ≤ 1000) × (slots ≤ length (now log)) ⌝ }
     ensures { λ _. ⌜ now (log .exit) ≡ spentIn slots (now (log .entry)) next clock characters ⌝ }
 {
-    let mut at = slot_of(slots, next);
+    let mut at = slot_at(slots, next);
     let mut left = numbers::least(characters, slots);
     while 0 < left {
         log[at] = clock;
-        at = wrapped(slots, at + 1);
+        at = around(slots, at + 1);
         left -= 1;
     }
 }
@@ -94,7 +94,7 @@ impl Pace {
         ensures { λ r. ⌜ r ≡ allowed (slotsOf rate) (timesIn (slotsOf rate) (now (log .entry)) (self .next) (self .used)) clock characters ⌝ }
     {
         let slots = slots_of(rate);
-        let at = slot_of(slots, self.next);
+        let at = slot_at(slots, self.next);
         let used = self.used;
         let mut most = numbers::least(characters, slots);
         while 0 < most {
@@ -118,9 +118,9 @@ impl Pace {
         ensures { λ r. ⌜ r ≡ paceAfter self rate characters ⌝ }
     {
         let slots = slots_of(rate);
-        let at = slot_of(slots, self.next);
+        let at = slot_at(slots, self.next);
         let more = numbers::least(characters, slots);
-        let next = wrapped(slots, at + more);
+        let next = around(slots, at + more);
         let before = numbers::least(self.used, slots);
         let used = numbers::least(before + more, slots);
         Pace { next, used }

@@ -18,7 +18,7 @@ use Rattle.slots.specs.Slots.{textsSize, restKept}
 use Rattle.slots.proofs.Rest.{waiting-rest}
 use Rattle.rate.specs.Circle.{slotsOf, logSize, timesIn, spentIn, paceAfter}
 use Rattle.rate.proofs.Circle.{slots-limit}
-use Rattle.rate.proofs.Allowed.{allowed-within}
+use Rattle.sender_spec.proofs.AllowedTurns.{allowed-within}
 use Rattle.rate.proofs.Spent.{spent-times}
 use Rattle.settings.specs.State.{settingsOf}
 use Rattle.sender.specs.State.{stateOf}

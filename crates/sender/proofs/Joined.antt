@@ -21,7 +21,7 @@ use Rattle.sender_spec.specs.Answers.{CallResult}
 use Rattle.sender_spec.specs.Offering.{offerChecks, senderWith}
 use Rattle.sender_spec.specs.Calls.{offerOf, offerRefused}
 use Rattle.sender_spec.proofs.Calls.{offer-joined}
-use Rattle.slots.specs.Slots.{slots, textsSize, written}
+use Rattle.slots.specs.Slots.{slots, textsSize, overAt}
 use Rattle.slots.proofs.Slots.{waiting-length, waiting-some}
 use Rattle.writer.specs.Draft.{blocksFrom}
 use Rattle.settings.specs.State.{settingsOf, progressOf}
@@ -35,7 +35,7 @@ use Rattle.sender.specs.Offering.{recordWith, recordIn, Offers}
 -- text joins what waits, in its slot; the blocks kept stay
 module _ (s : Sender) (texts x : List ℕ) (size : length texts ≡ textsSize) (fits : min (s .waiting .len) roomSize + length x ≤ roomSize) where
   abbrev after : List ℕ
-  after = written (endOf (s .waiting .room) (s .waiting .len)) x texts
+  after = overAt (endOf (s .waiting .room) (s .waiting .len)) x texts
 
   blocks : (back : ℕ) (lens ats : List ℕ) → 1 ≤ back → back + length lens ≤ slots → blocksFrom after (s .waiting .room) back lens ats ≡ blocksFrom texts (s .waiting .room) back lens ats
   blocks back [] ats h k = refl

@@ -5,6 +5,7 @@ pub mod Calls
 pub mod SettingsPass
 pub mod ChecksPassed
 pub mod Shapes
+pub mod AllowedTurns
 pub mod Allowed
 pub mod StaysSendable
 pub mod Sizes

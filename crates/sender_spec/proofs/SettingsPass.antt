@@ -1,7 +1,7 @@
 -- Settings that pass the checks.
 use Prim.Native.Nat.{ℕ, _≤_}
 use mathlib.Core.Path.{_≡_, refl}
-use mathlib.Core.Bool.{Bool, true, false, cond, _||_}
+use mathlib.Core.Bool.{Bool, true, false, cond}
 use native.Mathlib.Omega.{arith}
 use lib.Dec.{ltb, eqb}
 use borrow.Author.Tests.{ltb-false, eqb-false}
@@ -9,11 +9,11 @@ use Rattle.packet_spec.specs.Limits.{level}
 use Rattle.packet_spec.specs.Header.{typesBad}
 use Rattle.sender_spec.specs.Limits.{longestBuffering, highestRate}
 use Rattle.sender_spec.specs.State.{Settings}
-use Rattle.sender_spec.specs.Settings.{bufferingBad, rateBad, settingsNumber}
+use Rattle.sender_spec.specs.Settings.{zeroOrAbove, bufferingBad, rateBad, settingsNumber}
 use Rattle.base.proofs.Tests.{or-left, or-right}
 
 -- a number from 1 to the highest
-from-one : (n most : ℕ) → (eqb n 0 || ltb most n) ≡ false → (1 ≤ n) × (n ≤ most)
+from-one : (n most : ℕ) → zeroOrAbove most n ≡ false → (1 ≤ n) × (n ≤ most)
 from-one n most e =
     let z : n ≡ 0 → ⊥ = eqb-false n 0 (or-left (eqb n 0) (ltb most n) e) in
     (omega arith, ltb-false most n (or-right (eqb n 0) (ltb most n) e))

@@ -1,5 +1,5 @@
 -- What the calls leave is good: waiting text and kept blocks may be sent.
-use Prim.Native.Nat.{ℕ, zero, suc, _+_, _-_, _≤_, min}
+use Prim.Native.Nat.{ℕ, _+_, _-_, _≤_, min}
 use mathlib.Core.Path.{_≡_, _∙_, refl, ap, sym}
 use mathlib.Core.List.{List, [], _∷_, _++_}
 use mathlib.Core.Bool.{true}
@@ -15,10 +15,11 @@ use Rattle.sender_spec.specs.State.{Settings, SentBlock, Sender, freshSe
 use Rattle.sender_spec.specs.Answers.{CallResult, ClockResult}
 use Rattle.sender_spec.specs.Calls.{offerOf, clockOf}
 use Rattle.sender_spec.specs.Packets.{going, taken, left, afterPacket}
-use Rattle.sender_spec.specs.Rate.{limitOf, fits, allowed}
+use Rattle.sender_spec.specs.Rate.{limitOf}
 use Rattle.text_spec.proofs.TextJoin.{text-join}
 use Rattle.text_spec.proofs.FrontLaws.{join-counts, count-within, front-rest, front-counts, rest-counts, front-all}
 use Rattle.base.proofs.Tests.{by-test}
+use Rattle.sender_spec.proofs.AllowedTurns.{allowed-few}
 use Rattle.base.specs.Every.{Every}
 use Rattle.base.proofs.EveryLaws.{every-take}
 use Rattle.sender_spec.proofs.Shapes.{Offer, joined, Clock, quiet, sent, offer-shape, clock-shape}
@@ -70,11 +71,6 @@ offer-good s t x g = go (offerOf s t x) (offer-shape s t x)
     }
 
 -- what a packet takes is a front of what waits: so many characters
-pub allowed-few : (limit : ℕ) (times : List ℕ) (t n : ℕ) → allowed limit times t n ≤ n
-allowed-few limit times t zero = omega arith
-allowed-few limit times t (suc n) =
-    by-test (λ (k : ℕ). k ≤ suc n) (fits limit times t (suc n)) (λ e. omega arith) (λ e. let h = allowed-few limit times t n in omega arith)
-
 module _ (s : Sender) (t : ℕ) (g : Good s) where
   abbrev few : going s t ≤ s .characters
   few = allowed-few (limitOf (s .settings)) (s .times) t (s .characters)

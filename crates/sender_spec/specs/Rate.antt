@@ -1,6 +1,6 @@
 -- How many characters may leave (02, "Hold the typist to the client's rate"): "Over any 10,000 ms window, both ends included, the
 -- characters in primaries sent may not exceed ten times the rate".
-use Prim.Native.Nat.{ℕ, zero, suc, _+_, _-_, _*_}
+use Prim.Native.Nat.{ℕ, zero, suc, _-_, _*_}
 use mathlib.Core.List.{List, [], _∷_}
 use mathlib.Core.Bool.{Bool, true, cond, _&&_}
 use lib.Dec.{ltb, leb}

@@ -10,13 +10,17 @@ use Rattle.packet_spec.specs.Header.{typesBad}
 use Rattle.base.specs.Checks.{Check, _gives_, numberBy}
 use Rattle.sender_spec.specs.Limits.{longestBuffering, highestRate}
 
+-- 0, or above the highest
+abbrev pub zeroOrAbove : ℕ → ℕ → Bool
+zeroOrAbove most n = eqb n 0 || ltb most n
+
 -- "buffering time 0 or above 500"
 abbrev pub bufferingBad : ℕ → Bool
-bufferingBad b = eqb b 0 || ltb longestBuffering b
+bufferingBad b = zeroOrAbove longestBuffering b
 
 -- "a rate from 1 to 100"
 abbrev pub rateBad : ℕ → Bool
-rateBad r = eqb r 0 || ltb highestRate r
+rateBad r = zeroOrAbove highestRate r
 
 -- "R above 4"; the buffering time; "payload types outside 96..127, or equal"; the rate
 abbrev pub settingsChecks : Settings → List Check

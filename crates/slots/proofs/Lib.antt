@@ -1,3 +1,3 @@
-pub mod Written
+pub mod OverAt
 pub mod Slots
 pub mod Rest

@@ -8,9 +8,9 @@ use lib.ListN.{length, take, drop, length-drop}
 use lib.Seq.{drop-drop}
 use Rattle.base.proofs.Fronts.{empty, drop-take}
 use Rattle.sender_spec.specs.Limits.{roomSize}
-use Rattle.slots.specs.Slots.{slots, textsSize, roomOf, slotOf, onward, slotText, waitingIn, written, restKept}
+use Rattle.slots.specs.Slots.{slots, textsSize, roomOf, slotOf, onward, slotText, waitingIn, overAt, restKept}
 use Rattle.slots.proofs.Slots.{onward-room, slot-other, waiting-length, slot-joined, other-stays}
-use Rattle.slots.proofs.Written.{written-none, written-length}
+use Rattle.slots.proofs.OverAt.{over-at-none, over-at-length}
 
 module _ (room len taken : ℕ) (texts : List ℕ) (size : length texts ≡ textsSize) where
   abbrev rest : List ℕ
@@ -29,7 +29,7 @@ module _ (room len taken : ℕ) (texts : List ℕ) (size : length texts ≡ text
   pub nothing-left : min len roomSize ≤ taken → texts ≡ restKept room len taken texts
   nothing-left h =
       let e : rest ≡ [] = empty rest (omega (arith, rest-length)) in
-      sym (ap (λ (x : List ℕ). written (onward room * roomSize) x texts) e ∙ written-none (onward room * roomSize) texts)
+      sym (ap (λ (x : List ℕ). overAt (onward room * roomSize) x texts) e ∙ over-at-none (onward room * roomSize) texts)
 
   fits : 0 + length rest ≤ roomSize
   fits = omega (arith, rest-length)
@@ -41,15 +41,15 @@ module _ (room len taken : ℕ) (texts : List ℕ) (size : length texts ≡ text
   start = add-zero (onward room * roomSize)
 
   pub kept-length : length (restKept room len taken texts) ≡ textsSize
-  kept-length = written-length (onward room * roomSize) rest texts (omega (arith, fits)) ∙ size
+  kept-length = over-at-length (onward room * roomSize) rest texts (omega (arith, fits)) ∙ size
 
   pub waiting-rest : waitingIn (restKept room len taken texts) (onward room) (min len roomSize - taken) ≡ drop taken (waitingIn texts room len)
   waiting-rest =
-      (λ i. slotText (written (sym start i) rest texts) (onward-room room i) (sym rest-length i))
+      (λ i. slotText (overAt (sym start i) rest texts) (onward-room room i) (sym rest-length i))
       ∙ slot-joined (onward room) 0 texts rest size below fits
 
   pub rest-other : (slot n : ℕ) → slot < slots → (slot ≡ onward room → ⊥) → slotText (restKept room len taken texts) slot n ≡ slotText texts slot n
-  rest-other slot n h differs = ap (λ (k : ℕ). slotText (written k rest texts) slot n) (sym start) ∙ other-stays (onward room) 0 texts rest size below fits slot n h differs
+  rest-other slot n h differs = ap (λ (k : ℕ). slotText (overAt k rest texts) slot n) (sym start) ∙ other-stays (onward room) 0 texts rest size below fits slot n h differs
 
   -- so many packets back in the circle as it stands behind the packet
   pub rest-back : (back n : ℕ) → 1 ≤ back → back < slots → slotText (restKept room len taken texts) (slotOf (onward room) back) n ≡ slotText texts (slotOf (onward room) back) n

@@ -11,8 +11,8 @@ use Rattle.base.proofs.Tests.{by-test}
 use Rattle.packet_spec.specs.Limits.{level}
 use Rattle.sender_spec.specs.Limits.{roomSize}
 use Rattle.sender_spec.specs.State.{hasText}
-use Rattle.slots.specs.Slots.{slots, textsSize, roomOf, slotOf, onward, slotText, waitingIn, written}
-use Rattle.slots.proofs.Written.{written-before, written-behind, written-joins}
+use Rattle.slots.specs.Slots.{slots, textsSize, roomOf, slotOf, onward, slotText, waitingIn, overAt}
+use Rattle.slots.proofs.OverAt.{over-at-before, over-at-behind, over-at-joins}
 
 pub room-slot : (room : ℕ) → roomOf room < slots
 room-slot room = by-test (λ (k : ℕ). k < slots) (ltb room slots) (λ e. ltb-true room slots e) (λ e. omega arith)
@@ -65,17 +65,17 @@ module _ (slot from : ℕ) (texts x : List ℕ) (size : length texts ≡ textsSi
   within = omega arith
 
   -- join the front of so many there
-  pub slot-joined : slotText (written (slot * roomSize + from) x texts) slot (from + length x) ≡ slotText texts slot from ++ x
+  pub slot-joined : slotText (overAt (slot * roomSize + from) x texts) slot (from + length x) ≡ slotText texts slot from ++ x
   slot-joined =
       let e : min (from + length x) roomSize ≡ from + length x = omega arith in
       let f : min from roomSize ≡ from = omega arith in
-      ap (λ (n : ℕ). take n (drop (slot * roomSize) (written (slot * roomSize + from) x texts))) e
-      ∙ written-joins (slot * roomSize + from) x texts within (slot * roomSize) from refl ∙ ap (λ (n : ℕ). take n (drop (slot * roomSize) texts) ++ x) (sym f)
+      ap (λ (n : ℕ). take n (drop (slot * roomSize) (overAt (slot * roomSize + from) x texts))) e
+      ∙ over-at-joins (slot * roomSize + from) x texts within (slot * roomSize) from refl ∙ ap (λ (n : ℕ). take n (drop (slot * roomSize) texts) ++ x) (sym f)
 
   -- and leave the other slots as they are
-  pub other-stays : (other n : ℕ) → other < slots → (other ≡ slot → ⊥) → slotText (written (slot * roomSize + from) x texts) other n ≡ slotText texts other n
+  pub other-stays : (other n : ℕ) → other < slots → (other ≡ slot → ⊥) → slotText (overAt (slot * roomSize + from) x texts) other n ≡ slotText texts other n
   other-stays other n h differs = go (leb other slot) refl
     where
-      go : (b : Bool) → leb other slot ≡ b → slotText (written (slot * roomSize + from) x texts) other n ≡ slotText texts other n
-      go true e = let l : other ≤ slot = leb-true other slot e in written-before (slot * roomSize + from) x texts within (other * roomSize) (min n roomSize) (omega arith)
-      go false e = let l : slot < other = leb-false other slot e in ap (take (min n roomSize)) (written-behind (slot * roomSize + from) x texts within (other * roomSize) (omega arith))
+      go : (b : Bool) → leb other slot ≡ b → slotText (overAt (slot * roomSize + from) x texts) other n ≡ slotText texts other n
+      go true e = let l : other ≤ slot = leb-true other slot e in over-at-before (slot * roomSize + from) x texts within (other * roomSize) (min n roomSize) (omega arith)
+      go false e = let l : slot < other = leb-false other slot e in ap (take (min n roomSize)) (over-at-behind (slot * roomSize + from) x texts within (other * roomSize) (omega arith))

@@ -36,9 +36,9 @@ abbrev pub waitingIn : List ℕ → ℕ → ℕ → List ℕ
 waitingIn texts room len = slotText texts (roomOf room) len
 
 -- x in the place of as many bytes there; the others stay
-abbrev pub written : ℕ → List ℕ → List ℕ → List ℕ
-written at x texts = take at texts ++ over x (drop at texts)
+abbrev pub overAt : ℕ → List ℕ → List ℕ → List ℕ
+overAt at x texts = take at texts ++ over x (drop at texts)
 
 -- the next slot begins with what is left of what waits, behind so many bytes
 abbrev pub restKept : ℕ → ℕ → ℕ → List ℕ → List ℕ
-restKept room len taken texts = written (onward room * roomSize) (drop taken (waitingIn texts room len)) texts
+restKept room len taken texts = overAt (onward room * roomSize) (drop taken (waitingIn texts room len)) texts

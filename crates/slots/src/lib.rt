@@ -7,7 +7,7 @@ ghost use lib.ListN.{length, take, drop};
 ghost use Prim.Native.Nat.{_+_, _-_, _≤_, _<_, min};
 ghost use Rattle.packet_spec.specs.Limits.{level};
 ghost use Rattle.sender_spec.specs.Limits.{roomSize};
-ghost use Rattle.slots.specs.Slots.{slots, textsSize, roomOf, onward, written, restKept};
+ghost use Rattle.slots.specs.Slots.{slots, textsSize, roomOf, onward, overAt, restKept};
 ghost use Rattle.slots.specs.Held.{joinedOf, leftOf, keptWith};
 use carrying::Block;
 use numbers::least;
@@ -49,7 +49,7 @@ fn next_room(room: usize) -> usize
 // Writes the bytes from one place up to another to a third, by way of an array of their own.
 fn copy_within(texts: &mut [u8], from: usize, end: usize, to: usize)
     requires { ⌜ (from ≤ end) × (end - from ≤ roomSize) × (end ≤ length (now texts)) × (to + (end - from) ≤ length (now texts)) ⌝ }
-    ensures { λ _. ⌜ now (texts .exit) ≡ written to (take (end - from) (drop from (now (texts .entry)))) (now (texts .entry)) ⌝ }
+    ensures { λ _. ⌜ now (texts .exit) ≡ overAt to (take (end - from) (drop from (now (texts .entry)))) (now (texts .entry)) ⌝ }
 {
     let size = end - from;
     let mut rest = [0u8; Texts::ROOM];

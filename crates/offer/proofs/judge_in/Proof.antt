@@ -13,7 +13,7 @@ use Rattle.packet.proofs.Names.{number-positive}
 use Rattle.sender_spec.specs.Limits.{roomSize}
 use Rattle.sender_spec.specs.Answers.{CallResult}
 use Rattle.sender_spec.proofs.Calls.{offer-settings, offer-5, offer-7, offer-6, offer-4, offer-joined}
-use Rattle.slots.specs.Slots.{textsSize, waitingIn, written}
+use Rattle.slots.specs.Slots.{textsSize, waitingIn, overAt}
 use Rattle.slots.proofs.Slots.{waiting-length}
 use Rattle.offer.specs.Offer.{senderWhere, endOf}
 use borrow.Author.Needs.{needs}
@@ -142,7 +142,7 @@ returns-6 c =
     record {
       number = number-by (offer-joined state (a .clock) x (outcomeNumber (r .result)) (r .ensures) (ap outcomeNumber (c .before .before .before .before .before .before .before .before .before .before .before .before .before .enum-told .given .1)) (c .before .before .before .before .before .before .before .before .before .before .before .before .if1 .left) (c .before .before .before .before .before .before .before .before .before .before .before .if2 .left) text (omega (arith, waits)));
       counted = ap counted (told (c .before .before .before .before .before .before .before));
-      bytes = c .before .before .put .ensures ∙ ap (λ (k : ℕ). written k x texts) at;
+      bytes = c .before .before .put .ensures ∙ ap (λ (k : ℕ). overAt k x texts) at;
       whole = size start;
     }
 

@@ -4,8 +4,8 @@ use native.Mathlib.Omega.{arith}
 use lib.ListN.{length, set, length-set}
 use denote.Ref.{now}
 use borrow.Author.Needs.{needs}
-use Rattle.rate.specs.Circle.{slotOf, spentFrom}
-use Rattle.rate.proofs.Circle.{slot-inside, wrapped-inside, spent-on}
+use Rattle.rate.specs.Circle.{slotAt, spentFrom}
+use Rattle.rate.proofs.Circle.{slot-inside, around-inside, spent-on}
 use Rattle.rate.proofs.spend_in.Statement.{statement}
 use Rattle.rate.proofs.spend_in.Tie as tie
 
@@ -16,8 +16,8 @@ Inv-loop slots log₀ next clock characters at₀ left₀ log at left =
 abbrev μ-loop : tie.MeasureT-loop
 μ-loop slots log₀ next clock characters at₀ left₀ log at left = left
 
-slot-of-requires : tie.Need-slot-of-requires Inv-loop μ-loop
-slot-of-requires c κs = search needs
+slot-at-requires : tie.Need-slot-at-requires Inv-loop μ-loop
+slot-at-requires c κs = search needs
 
 least-requires : tie.Need-least-requires Inv-loop μ-loop
 least-requires c κs = search needs
@@ -26,7 +26,7 @@ loop-holds : tie.Need-loop-holds Inv-loop μ-loop
 loop-holds c =
     let a = c .before .before .before .args in
     let few : c .least .result ≤ a .slots = omega (arith, c .least .ensures) in
-    (few, λ some. subst (λ (i : ℕ). i < a .slots) (sym (c .before .slot-of .ensures)) (slot-inside (a .slots) (a .next) (omega arith)), refl, refl)
+    (few, λ some. subst (λ (i : ℕ). i < a .slots) (sym (c .before .slot-at .ensures)) (slot-inside (a .slots) (a .next) (omega arith)), refl, refl)
 
 -- within the slots
 inside : (c : tie.In-loop Inv-loop μ-loop) → c .before .loop .at < c .before .before .before .before .before .args .slots
@@ -38,11 +38,11 @@ mul-log c = record { fits = omega (arith, inside c, c .before .before .before .b
 slice-write-log : tie.Need-slice-write-log Inv-loop μ-loop
 slice-write-log c = omega (arith, inside c, c .before .loop .inv .2, c .before .before .before .before .before .pre .1)
 
-add-wrapped : tie.Need-add-wrapped Inv-loop μ-loop
-add-wrapped c = record { fits = omega (arith, inside c) }
+add-around : tie.Need-add-around Inv-loop μ-loop
+add-around c = record { fits = omega (arith, inside c) }
 
-wrapped-requires : tie.Need-wrapped-requires Inv-loop μ-loop
-wrapped-requires c κs = search needs
+around-requires : tie.Need-around-requires Inv-loop μ-loop
+around-requires c κs = search needs
 
 sub-left : tie.Need-sub-left Inv-loop μ-loop
 sub-left c = search needs
@@ -55,9 +55,9 @@ loop-again c =
     let l = c .before .before in
     let a = l .before .before .before .before .args in
     let n = a .slots in
-    let e = c .wrapped .ensures in (
+    let e = c .around .ensures in (
       omega arith,
-      λ some. subst (λ (i : ℕ). i < n) (sym e) (wrapped-inside n (l .loop .at + 1) (omega (arith, inside (c .before)))),
+      λ some. subst (λ (i : ℕ). i < n) (sym e) (around-inside n (l .loop .at + 1) (omega (arith, inside (c .before)))),
       length-set (l .loop .log) (l .loop .at) (a .clock) ∙ l .loop .inv .2,
       ap (λ (i : ℕ). spentFrom n (set (l .loop .log) (l .loop .at) (a .clock)) i (a .clock) (l .loop .left - 1)) e
           ∙ spent-on n (l .loop .log) (l .loop .at) (a .clock) (l .loop .left) (omega arith)
@@ -75,8 +75,8 @@ returns c =
     let z : l .loop .left ≡ 0 = omega arith in
     sym (ap (spentFrom n (l .loop .log) (l .loop .at) (a .clock)) z)
     ∙ l .loop .inv .3
-    ∙ ap (λ (i : ℕ). spentFrom n (now (a .log)) i (a .clock) (l .before .least .result)) (l .before .before .slot-of .ensures)
-    ∙ ap (spentFrom n (now (a .log)) (slotOf n (a .next)) (a .clock)) (l .before .least .ensures)
+    ∙ ap (λ (i : ℕ). spentFrom n (now (a .log)) i (a .clock) (l .before .least .result)) (l .before .before .slot-at .ensures)
+    ∙ ap (spentFrom n (now (a .log)) (slotAt n (a .next)) (a .clock)) (l .before .least .ensures)
 
 pub spend-in-spec : {M : Type 1} → statement M
 spend-in-spec =
@@ -84,13 +84,13 @@ spend-in-spec =
     (tie.spec
     Inv-loop
     μ-loop
-    slot-of-requires
+    slot-at-requires
     least-requires
     loop-holds
     mul-log
     slice-write-log
-    add-wrapped
-    wrapped-requires
+    add-around
+    around-requires
     sub-left
     loop-less
     loop-again

@@ -7,7 +7,7 @@ use lib.Seq.{take-at}
 use borrow.Rule.Slice.PartMut.{putMid, midOf}
 use denote.Ref.{now}
 use Rattle.base.proofs.Lent.{copied, back}
-use Rattle.slots.specs.Slots.{written}
+use Rattle.slots.specs.Slots.{overAt}
 use borrow.Author.Needs.{needs}
 use Rattle.slots.proofs.copy_within.Statement.{statement}
 use Rattle.slots.proofs.copy_within.Tie as tie
@@ -77,7 +77,7 @@ returns c =
     let e = held (c .before .before .before .before .before .before) in
     let two = c .before .before .copy2 in
     ap (putMid (a .to) k p) (copied x (midOf (a .to) k p) (two .last .1 .0) (two .ensures .1))
-    ∙ back (a .to) k p x (omega (arith, ap length e, part-size start)) ∙ ap (λ (y : List ℕ). written (a .to) y p) e
+    ∙ back (a .to) k p x (omega (arith, ap length e, part-size start)) ∙ ap (λ (y : List ℕ). overAt (a .to) y p) e
 
 pub copy-within-spec : {M : Type 1} → statement M
 copy-within-spec =

@@ -3,7 +3,7 @@ use mathlib.Core.Path.{_≡_, _∙_, ap}
 use native.Mathlib.Omega.{arith}
 use denote.Ref.{now}
 use Rattle.sender_spec.specs.Limits.{roomSize}
-use Rattle.slots.specs.Slots.{written}
+use Rattle.slots.specs.Slots.{overAt}
 use Rattle.slots.proofs.Rest.{nothing-left, rest-lies}
 use borrow.Author.Needs.{needs}
 use Rattle.slots.proofs.keep_in.Statement.{statement}
@@ -50,7 +50,7 @@ returns-2 c =
     let room = c .before .before .before .before .before .room-of in
     let next = c .before .before .before .before .next-room in
     let from = rest-lies (a .room) (a .len) (a .taken) (now (a .texts)) (start .pre) (room .result * roomSize) (least .result) (ap (λ (r : ℕ). r * roomSize) (room .ensures .0)) (least .ensures) in
-    c .before .before .copy-within .ensures ∙ (λ i. written (next .ensures .0 i * roomSize) (from i) (now (a .texts)))
+    c .before .before .copy-within .ensures ∙ (λ i. overAt (next .ensures .0 i * roomSize) (from i) (now (a .texts)))
 
 pub keep-in-spec : {M : Type 1} → statement M
 keep-in-spec =

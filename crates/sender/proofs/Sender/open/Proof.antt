@@ -11,7 +11,7 @@ use Rattle.packet.proofs.Names.{number-positive}
 use Rattle.delivery.specs.Numbers.{wrapped}
 use Rattle.sender_spec.proofs.Calls.{open-accepted, open-refused}
 use Rattle.settings.specs.State.{settingsOf}
-use Rattle.rate.specs.Circle.{slotsOf, slotOf, timesBack, timesIn}
+use Rattle.rate.specs.Circle.{slotsOf, slotAt, timesBack, timesIn}
 use Rattle.sender.specs.State.{stateOf}
 use Rattle.sender.specs.Opening.{openedBy}
 use Rattle.sender.proofs.Sender.open.Statement.{statement}
@@ -23,7 +23,7 @@ first c = omega arith
 
 -- no slot was used
 times-none : (n : ℕ) (log : List ℕ) → timesIn n log 0 0 ≡ []
-times-none n log = let z : min 0 n ≡ 0 = omega arith in ap (timesBack n log (slotOf n 0)) z
+times-none n log = let z : min 0 n ≡ 0 = omega arith in ap (timesBack n log (slotAt n 0)) z
 
 settings-outcome-requires : tie.Need-settings-outcome-requires
 settings-outcome-requires c κs = search needs
