@@ -5,23 +5,16 @@ use mathlib.Core.List.{List, [], _∷_}
 use mathlib.Core.Bool.{Bool, true, false, cond}
 use native.Mathlib.Nat.{not-suc-le-zero, le-of-suc-le-suc}
 use native.Mathlib.Omega.{arith}
-use lib.Dec.{leb}
 use lib.ListN.{length, take, drop, getD, length-take, drop-of-length-le}
 use lib.Seq.{drop-cons, getD-take}
 use borrow.Author.Tests.{leb-true}
-use Rattle.base.proofs.Tests.{by-test, and-left, and-right}
+use Rattle.base.proofs.Tests.{by-test}
 use Rattle.delivery.specs.Run.{oldestAge}
 use Rattle.carrying.specs.internal.Young.{young, youngRun}
 
-young-true : (t at : ℕ) → young t at ≡ true → (at ≤ t) × (t - at ≤ oldestAge)
-young-true t at e =
-    let a = leb at t in
-    let b = leb (t - at) oldestAge in
-    (leb-true at t (and-left a b e), leb-true (t - at) oldestAge (and-right a b e))
-
 -- its age fits the 14 bits of a time offset
 pub young-age : (t at : ℕ) → young t at ≡ true → min (t - at) oldestAge ≡ t - at
-young-age t at e = omega (arith, young-true t at e)
+young-age t at e = omega (arith, leb-true (t - at) oldestAge e)
 
 -- the run goes on behind the first k
 module _ (t : ℕ) (ats : List ℕ) (most k : ℕ) (h : k < most) (fits : k < length ats) where

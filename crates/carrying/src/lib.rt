@@ -27,10 +27,7 @@ pub struct Carried {
 fn is_young(clock: u64, at: u64) -> bool
     ensures { λ r. ⌜ r ≡ young clock at ⌝ }
 {
-    if clock < at {
-        return false;
-    }
-    clock - at <= Block::OLDEST
+    numbers::passed(clock, at) <= Block::OLDEST
 }
 
 // What a packet carries of the first `most` blocks, by their lengths and times, newest first.

@@ -27,7 +27,7 @@ use Rattle.sender_spec.proofs.StaysSendable.{fresh-good}
 use Rattle.demands.proofs.FollowsLog.{Move, still, moved, sends, move, rules, Packets}
 use Rattle.demands.proofs.Demand2.{read-by, good-back}
 use Rattle.demands.proofs.Recorded.{is-sent}
-use Rattle.demands.proofs.OursKeeps.{log-rises, small, packets}
+use Rattle.demands.proofs.OursKeeps.{small, packets}
 
 -- every packet has the sender's source
 abbrev From : Settings → Written → Type 0
@@ -52,13 +52,13 @@ admits-on r p c source e a = go (r .hasSource) (courseOf (distance (c .sequence)
     go true late = a
     go false v = sym e
 
-module _ (x : Settings) (R : ℕ) (small : R ≤ level) (first : ℕ) (f : ℕ → SentBlock) (f-rises : (k : ℕ) → f k .at ≤ f (suc k) .at) where
+module _ (x : Settings) (R : ℕ) (small : R ≤ level) (first : ℕ) (f : ℕ → SentBlock) where
   abbrev P : Rules
-  P = rules R small first f f-rises
+  P = rules R small first f
 
   -- a receiver that has accepted the k packets before these
   one-each : (ws : List Written) (k : ℕ) (r : Receiver) → r .t140 ≡ x .t140 → r .red ≡ x .red → Admits (sourceExpected r) (x .source) → state r ≡ before P k
-      → Every (ReadBack ours x) ws → Every (From x) ws → Packets R small first f f-rises k ws → OneEach r (map (λ w. w .packet) ws) (map primarySent ws)
+      → Every (ReadBack ours x) ws → Every (From x) ws → Packets R small first f k ws → OneEach r (map (λ w. w .packet) ws) (map primarySent ws)
   unfolding stepOf
   one-each [] k r a b h at back from is = none r
   one-each (w ∷ ws) k r a b h at back from is =
@@ -83,5 +83,5 @@ module _ (x : Settings) (R : ℕ) (small : R ≤ level) (first : ℕ) (f : ℕ �
 pub all-arrive : (x : Settings) (calls : List Call) → settingsNumber x ≡ 0
     → OneEach (freshReceiver (x .t140) (x .red)) (map (λ w. w .packet) (written ours (freshSender x) calls)) (map primarySent (written ours (freshSender x) calls))
 all-arrive x calls good =
-    one-each x _ (small x calls good) _ _ (log-rises x calls good) (written ours (freshSender x) calls) 0 (freshReceiver (x .t140) (x .red)) refl refl tt refl
+    one-each x _ (small x calls good) _ _ (written ours (freshSender x) calls) 0 (freshReceiver (x .t140) (x .red)) refl refl tt refl
     (good-back x calls (freshSender x) refl (fresh-good x)) (all-from x calls (freshSender x) refl) (packets x calls good)

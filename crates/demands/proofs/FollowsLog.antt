@@ -1,5 +1,5 @@
 -- Along a list of calls our sender follows the log of what it wrote: packet k has number k, block k, and the run of 01.
-use Prim.Native.Nat.{ℕ, zero, suc, _+_, _-_, _≤_, _<_}
+use Prim.Native.Nat.{ℕ, zero, suc, _+_, _-_, _≤_}
 use mathlib.Core.Path.{_≡_, _∙_, refl, ap, ap₂, sym, subst}
 use mathlib.Core.List.{List, [], _∷_, _++_, map, map-map, reverse}
 use mathlib.Core.Bool.{true}
@@ -81,14 +81,7 @@ rises (c ∷ cs) s d h k = go (senderAfter ours s c) (writes ours s c) (move s c
     go s₁ ws (sends t p l x y z) h lo f zero = lo h 0
     go s₁ ws (sends t p l x y z) h lo f (suc k) = f h k
 
-rises-by : (f : ℕ → ℕ) → ((k : ℕ) → f k ≤ f (suc k)) → (j m : ℕ) → f j ≤ f (j + m)
-rises-by f r j zero = let e : j ≡ j + 0 = omega arith in subst (λ n. f j ≤ f n) e (le-refl (f j))
-rises-by f r j (suc m) = let e : suc (j + m) ≡ j + suc m = omega arith in subst (λ n. f j ≤ f n) e (le-trans (rises-by f r j m) (r (j + m)))
-
-rises-to : (f : ℕ → ℕ) → ((k : ℕ) → f k ≤ f (suc k)) → (j n : ℕ) → j < n → f j ≤ f n
-rises-to f r j n h = let e : j + (n - j) ≡ n = omega arith in subst (λ k. f j ≤ f k) e (rises-by f r j (n - j))
-
-module _ (R : ℕ) (small : R ≤ level) (first : ℕ) (f : ℕ → SentBlock) (f-rises : (k : ℕ) → f k .at ≤ f (suc k) .at) where
+module _ (R : ℕ) (small : R ≤ level) (first : ℕ) (f : ℕ → SentBlock) where
   abbrev pub rules : Rules
   rules = record { level = R; first = first; block = λ k. f k .text; time = λ k. f k .at }
 
@@ -103,7 +96,7 @@ module _ (R : ℕ) (small : R ≤ level) (first : ℕ) (f : ℕ → SentBlock) (
   carried-is s n a =
       let k : take (s .settings .level) (s .kept) ≡ down f n R =
       ap₂ {C = List SentBlock} (λ r bs. take r bs) (a .level-is) (a .kept-is) ∙ take-down f n R level small in
-      ap (recentRun (f n .at)) k ∙ recent-down f (f n .at) R n (λ j h. rises-to (λ i. f i .at) f-rises j n h)
+      ap (recentRun (f n .at)) k ∙ recent-down f (f n .at) R n
 
   texts-down : (n m : ℕ) → m ≤ n → map (λ b. b .text) (reverse (down f n m)) ≡ map (λ k. f k .text) (range (n - m) (n - (n - m)))
   texts-down n m w =

@@ -3,7 +3,7 @@
 use Prim.Native.Nat.{ℕ, zero, suc, _+_, _-_, _≤_, _<_}
 use mathlib.Core.Path.{_≡_, _∙_, refl, ap, sym}
 use mathlib.Core.List.{List, [], _∷_, _++_, map, reverse, reverse-cons}
-use mathlib.Core.Bool.{Bool, true, false, cond, _&&_}
+use mathlib.Core.Bool.{Bool, true, false, cond}
 use native.Mathlib.Omega.{arith}
 use lib.Dec.{leb}
 use lib.ListN.{take}
@@ -15,12 +15,12 @@ use Rattle.sender_spec.specs.Packets.{recentRun}
 use Rattle.delivery.proofs.Ranges.{map-range-snoc}
 
 -- an age, by subtraction or by addition
-age : (t a : ℕ) → a ≤ t → (leb a t && leb (t - a) oldestAge) ≡ leb t (a + oldestAge)
-age t a h = go (leb t (a + oldestAge)) refl
+age : (t a : ℕ) → leb (t - a) oldestAge ≡ leb t (a + oldestAge)
+age t a = go (leb t (a + oldestAge)) refl
   where
-    go : (b : Bool) → leb t (a + oldestAge) ≡ b → (leb a t && leb (t - a) oldestAge) ≡ b
-    go true e = let l : t ≤ a + oldestAge = leb-true t (a + oldestAge) e in rw (le-leb a t h, le-leb (t - a) oldestAge (omega arith))
-    go false e = let l : a + oldestAge < t = leb-false t (a + oldestAge) e in rw (le-leb a t h, lt-leb (t - a) oldestAge (omega arith))
+    go : (b : Bool) → leb t (a + oldestAge) ≡ b → leb (t - a) oldestAge ≡ b
+    go true e = let l : t ≤ a + oldestAge = leb-true t (a + oldestAge) e in le-leb (t - a) oldestAge (omega arith)
+    go false e = let l : a + oldestAge < t = leb-false t (a + oldestAge) e in lt-leb (t - a) oldestAge (omega arith)
 
 module _ (f : ℕ → SentBlock) where
   -- the blocks of the log before n, newest first, at most r of them
@@ -45,12 +45,12 @@ module _ (f : ℕ → SentBlock) where
   keep-down n (suc r) = ap (λ l. f n ∷ l) (take-down n r (suc r) (omega arith))
 
   -- the run that is taken of them
-  pub recent-down : (t r n : ℕ) → ((j : ℕ) → j < n → f j .at ≤ t) → recentRun t (down n r) ≡ down n (run (λ k. f k .at) t r n)
-  recent-down t zero n h = ap (recentRun t) (down-none n) ∙ sym (down-none n)
-  recent-down t (suc r) zero h = refl
-  recent-down t (suc r) (suc n) h =
-      ap (λ b. cond b (f n ∷ recentRun t (down n r)) []) (age t (f n .at) (h n (omega arith)))
-      ∙ go (leb t (f n .at + oldestAge)) (recent-down t r n (λ j l. h j (omega arith)))
+  pub recent-down : (t r n : ℕ) → recentRun t (down n r) ≡ down n (run (λ k. f k .at) t r n)
+  recent-down t zero n = ap (recentRun t) (down-none n) ∙ sym (down-none n)
+  recent-down t (suc r) zero = refl
+  recent-down t (suc r) (suc n) =
+      ap (λ b. cond b (f n ∷ recentRun t (down n r)) []) (age t (f n .at))
+      ∙ go (leb t (f n .at + oldestAge)) (recent-down t r n)
     where
       go : (b : Bool) → recentRun t (down n r) ≡ down n (run (λ k. f k .at) t r n)
           → cond b (f n ∷ recentRun t (down n r)) [] ≡ down (suc n) (cond b (suc (run (λ k. f k .at) t r n)) 0)

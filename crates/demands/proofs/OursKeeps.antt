@@ -62,14 +62,14 @@ nothing-read t140 red c types e =
     omega arith
 
 -- element k of lists of packets that are the sender's, and that are read back
-module _ (R : ℕ) (small : R ≤ level) (first : ℕ) (f : ℕ → SentBlock) (f-rises : (k : ℕ) → f k .at ≤ f (suc k) .at) where
-  packet-at : (ws : List Written) (n k : ℕ) (d : Written) → Packets R small first f f-rises n ws → k < length ws
-      → IsPacket (rules R small first f f-rises) (n + k) (getD ws k d .content)
+module _ (R : ℕ) (small : R ≤ level) (first : ℕ) (f : ℕ → SentBlock) where
+  packet-at : (ws : List Written) (n k : ℕ) (d : Written) → Packets R small first f n ws → k < length ws
+      → IsPacket (rules R small first f) (n + k) (getD ws k d .content)
   packet-at [] n k d h l = absurd (omega arith)
-  packet-at (w ∷ ws) n zero d h l = subst (λ (j : ℕ). IsPacket (rules R small first f f-rises) j (w .content)) (sym (add-zero n)) (h .0)
+  packet-at (w ∷ ws) n zero d h l = subst (λ (j : ℕ). IsPacket (rules R small first f) j (w .content)) (sym (add-zero n)) (h .0)
   packet-at (w ∷ ws) n (suc k) d h l =
       let e : suc n + k ≡ n + suc k = omega arith in
-      subst (λ (j : ℕ). IsPacket (rules R small first f f-rises) j (getD ws k d .content)) e (packet-at ws (suc n) k d (h .1) (omega arith))
+      subst (λ (j : ℕ). IsPacket (rules R small first f) j (getD ws k d .content)) e (packet-at ws (suc n) k d (h .1) (omega arith))
 
 back-at : (x : Settings) (ws : List Written) (k : ℕ) (d : Written) → Every (ReadBack ours x) ws → k < length ws
     → reading level Any (x .t140) (x .red) (getD ws k d .packet) ≡ holds (getD ws k d .content)
@@ -98,13 +98,13 @@ module _ (x : Settings) (calls : List Call) (good : settingsNumber x ≡ 0) wher
   types = settings-good x good .typed
 
   abbrev ours-rules : Rules
-  ours-rules = rules (x .level) small (x .sequence) log log-rises
+  ours-rules = rules (x .level) small (x .sequence) log
 
-  start : At (x .level) small (x .sequence) log log-rises (freshSender x) 0
+  start : At (x .level) small (x .sequence) log (freshSender x) 0
   start = record { level-is = refl; next-is = ap wrapped (sym (add-zero (x .sequence))); kept-is = refl }
 
-  pub packets : Packets (x .level) small (x .sequence) log log-rises 0 ws
-  packets = follow (x .level) small (x .sequence) log log-rises calls (freshSender x) 0 beyond start (λ i. ap log (zero-add i))
+  pub packets : Packets (x .level) small (x .sequence) log 0 ws
+  packets = follow (x .level) small (x .sequence) log calls (freshSender x) 0 beyond start (λ i. ap log (zero-add i))
 
   reads : (k : ℕ) (c : Content) → reading level Any (x .t140) (x .red) (packetAt ws k) ≡ holds c → IsPacket ours-rules k c
   reads k c e = go (ltb k (length ws)) refl
@@ -121,7 +121,7 @@ module _ (x : Settings) (calls : List Call) (good : settingsNumber x ≡ 0) wher
           let r : holds (w .content) ≡ holds c = sym (back-at x ws k none (good-back x calls (freshSender x) refl (fresh-good x)) h) ∙ q in
           let s : w .content ≡ c = cc in
           subst (IsPacket ours-rules k) s
-          (subst (λ (j : ℕ). IsPacket ours-rules j (w .content)) (zero-add k) (packet-at (x .level) small (x .sequence) log log-rises ws 0 k none packets h))
+          (subst (λ (j : ℕ). IsPacket ours-rules j (w .content)) (zero-add k) (packet-at (x .level) small (x .sequence) log ws 0 k none packets h))
       go false l =
           let h : length ws ≤ k = ltb-false k (length ws) l in
           let n : length (map (λ w. w .packet) ws) ≡ length ws = length-map ws (λ w. w .packet) in

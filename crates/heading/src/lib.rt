@@ -148,10 +148,7 @@ fn put_head(to: &mut [u8], t140: u8, clock: u64, at: u64, len: usize)
 fn offset(clock: u64, at: u64) -> u64
     ensures { λ r. ⌜ r ≡ offsetOf clock at ⌝ }
 {
-    if clock < at {
-        return 0;
-    }
-    let age = clock - at;
+    let age = numbers::passed(clock, at);
     if Block::OLDEST < age {
         return Block::OLDEST;
     }

@@ -1,5 +1,5 @@
 -- The circle of slots.
-use Prim.Native.Nat.{ℕ, zero, suc, _+_, _-_, _*_, _≤_, _<_, min}
+use Prim.Native.Nat.{ℕ, zero, suc, _+_, _-_, _*_, _≤_, _<_}
 use mathlib.Core.Path.{_≡_, _∙_, refl, ap}
 use mathlib.Core.List.{List}
 use mathlib.Core.Bool.{Bool, true, false}
@@ -34,6 +34,20 @@ module _ (n : ℕ) where
   pub around-inside : (at : ℕ) → at < n + n → around n at < n
   around-inside at h =
       by-test (λ (k : ℕ). k < n) (ltb at n) (λ e. ltb-true at n e) (λ e. let l : n ≤ at = ltb-false at n e in omega arith)
+
+  -- a slot stays, and so does the 0 where there is none
+  pub slot-stays : (next : ℕ) → around n (slotAt n next) ≡ slotAt n next
+  slot-stays next = by-test (λ (k : ℕ). around n k ≡ k) (ltb next n) (λ e. around-stays next (ltb-true next n e)) (λ e. first)
+    where
+      first : around n 0 ≡ 0
+      first = by-test (λ (k : ℕ). k ≡ 0) (ltb 0 n) (λ e. refl) (λ e. omega arith)
+
+  pub stays-inside : (at : ℕ) → 0 < n → around n at ≡ at → at < n
+  stays-inside at some h = go (ltb at n) refl
+    where
+      go : (b : Bool) → ltb at n ≡ b → at < n
+      go true e = ltb-true at n e
+      go false e = let l : n ≤ at = ltb-false at n e in absurd (omega (arith, around-back at l))
 
   pub back-before : (at j : ℕ) → j < at → slotBack n at j ≡ at - 1 - j
   back-before at j h = rw (lt-ltb j at h)

@@ -9,7 +9,8 @@ use lib.ListN.{length, getD, drop, drop-of-length-le}
 use borrow.Author.Tests.{le-leb}
 use Rattle.delivery.specs.Sending.{range}
 use Rattle.delivery.proofs.Ranges.{length-map-range, drop-range}
-use Rattle.sender_spec.specs.Rate.{window, outside, fits}
+use Rattle.sender_spec.specs.Rate.{window, outside, fits, allowed}
+use Rattle.sender_spec.proofs.AllowedTurns.{allowed-fits}
 use Rattle.rate.specs.Circle.{slotBack, timesBack, around}
 use Rattle.rate.proofs.Circle.{back-ahead}
 
@@ -38,3 +39,9 @@ module _ (n : ℕ) (log : List ℕ) (at used t k : ℕ) (few : k ≤ n) where
       ap (λ (b : Bool). b && outside t (drop (n - k) l)) (le-leb k n few)
       ∙ outside-slot (λ j. getD log (slotBack n at j) 0) t (n - k) (min used n) (omega arith)
       ∙ ap (λ (i : ℕ). ltb window (t - getD log i 0)) (back-ahead n at k h some few)
+
+-- all of them may take empty slots
+pub allowed-empty : (n : ℕ) (log : List ℕ) (at used t k : ℕ) → k ≤ n → used ≤ n - k → allowed n (timesBack n log at (min used n)) t k ≡ k
+allowed-empty n log at used t zero few h = refl
+allowed-empty n log at used t (suc k) few h =
+    allowed-fits n (timesBack n log at (min used n)) t (suc k) (omega arith) (fits-empty n log at used t (suc k) few (omega arith) h)

@@ -57,7 +57,7 @@ module _ (n at : ℕ) (h : at < n) where
           let w : around n (at + 1) ≡ at + 1 - n = around-back n (at + 1) l in
           g (omega arith) (omega arith)
 
-  around-again : (k : ℕ) → k < n → around n (around n (at + 1) + k) ≡ around n (at + suc k)
+  pub around-again : (k : ℕ) → k < n → around n (around n (at + 1) + k) ≡ around n (at + suc k)
   around-again k few = by-end
       (λ l e. let p : at + 1 + k ≡ at + suc k = omega arith in ap (λ (i : ℕ). around n (i + k)) e ∙ ap (around n) p)
       (λ l e. ap (λ (i : ℕ). around n (i + k)) e ∙ omega (arith, around-stays n (0 + k) (omega arith), around-back n (at + suc k) (omega arith)))

@@ -1,9 +1,9 @@
 // How many characters may leave, by the times of the last ones, in a log lent to a sender.
 ghost use mathlib.Core.Path.{_≡_};
 ghost use lib.ListN.{length};
-ghost use Prim.Native.Nat.{_-_, _≤_, _<_, min};
+ghost use Prim.Native.Nat.{_+_, _-_, _≤_, _<_, min};
 ghost use Rattle.sender_spec.specs.Rate.{fits, allowed};
-ghost use Rattle.rate.specs.Circle.{slotsOf, logSize, slotAt, timesBack, timesIn, around, spentIn, paceAfter};
+ghost use Rattle.rate.specs.Circle.{slotsOf, logSize, slotAt, timesBack, timesIn, around, spentFrom, spentIn, usedAfter, paceAfter};
 use settings::Settings;
 
 // The lent times, in a circle of slots.
@@ -62,17 +62,41 @@ fn may_leave(
     Log::WINDOW < numbers::passed(clock, log[slot])
 }
 
-fn spend_in(slots: usize, log: &mut [u64], next: usize, clock: u64, characters: usize)
-    requires { ⌜ (slots ≤ 1000) × (slots ≤ length (now log)) ⌝ }
-    ensures { λ _. ⌜ now (log .exit) ≡ spentIn slots (now (log .entry)) next clock characters ⌝ }
+// The slot behind a slot.
+fn onward(slots: usize, at: usize) -> usize
+    requires { ⌜ (slots ≤ 1000) × (at < slots) ⌝ }
+    ensures { λ r. ⌜ r ≡ around slots (at + 1) ⌝ }
+{
+    if at + 1 < slots {
+        return at + 1;
+    }
+    0
+}
+
+// Writes the clock to so many slots in a row; the slot behind them.
+fn spend_in(slots: usize, log: &mut [u64], next: usize, clock: u64, more: usize) -> usize
+    requires { ⌜ (slots ≤ 1000) × (slots ≤ length (now log)) × (more ≤ slots) ⌝ }
+    ensures { λ r. ⌜ (r ≡ around slots (slotAt slots next + more)) × (now (log .exit) ≡ spentFrom slots (now (log .entry)) (slotAt slots next) clock more) ⌝ }
 {
     let mut at = slot_at(slots, next);
-    let mut left = numbers::least(characters, slots);
+    let mut left = more;
     while 0 < left {
         log[at] = clock;
-        at = around(slots, at + 1);
+        at = onward(slots, at);
         left -= 1;
     }
+    at
+}
+
+// How many slots are used behind so many characters more.
+fn used_after(slots: usize, used: usize, more: usize) -> usize
+    requires { ⌜ more ≤ slots ⌝ }
+    ensures { λ r. ⌜ r ≡ usedAfter slots used more ⌝ }
+{
+    if used <= slots - more {
+        return used + more;
+    }
+    slots
 }
 
 // The next slot, and how many were used.
@@ -94,9 +118,12 @@ impl Pace {
         ensures { λ r. ⌜ r ≡ allowed (slotsOf rate) (timesIn (slotsOf rate) (now (log .entry)) (self .next) (self .used)) clock characters ⌝ }
     {
         let slots = slots_of(rate);
-        let at = slot_at(slots, self.next);
         let used = self.used;
         let mut most = numbers::least(characters, slots);
+        if used <= slots - most {
+            return most;
+        }
+        let at = slot_at(slots, self.next);
         while 0 < most {
             if may_leave(slots, log, at, used, clock, most) {
                 return most;
@@ -106,23 +133,20 @@ impl Pace {
         0
     }
 
-    // Writes the clock to the slots of so many characters. So many times are lent.
-    pub fn spend(self, rate: usize, log: &mut [u64; Log::SIZE], clock: u64, characters: usize)
-        ensures { λ r. ⌜ (now (log .exit) ≡ spentIn (slotsOf rate) (now (log .entry)) (self .next) clock characters) × (length (now (log .entry)) ≡ logSize) ⌝ }
-    {
-        spend_in(slots_of(rate), log, self.next, clock, characters)
-    }
-
-    // Behind so many characters.
-    pub fn after(self, rate: usize, characters: usize) -> Pace
-        ensures { λ r. ⌜ r ≡ paceAfter self rate characters ⌝ }
+    // Writes the clock to the slots of so many characters; the pace behind them. So many times are lent.
+    pub fn spend(
+        self,
+        rate: usize,
+        log: &mut [u64; Log::SIZE],
+        clock: u64,
+        characters: usize,
+    ) -> Pace
+        ensures { λ r. ⌜ (r ≡ paceAfter self rate characters) × (now (log .exit) ≡ spentIn (slotsOf rate) (now (log .entry)) (self .next) clock characters) × (length (now (log .entry)) ≡ logSize) ⌝ }
     {
         let slots = slots_of(rate);
-        let at = slot_at(slots, self.next);
         let more = numbers::least(characters, slots);
-        let next = around(slots, at + more);
-        let before = numbers::least(self.used, slots);
-        let used = numbers::least(before + more, slots);
+        let next = spend_in(slots, log, self.next, clock, more);
+        let used = used_after(slots, self.used, more);
         Pace { next, used }
     }
 }

@@ -29,10 +29,10 @@ use Rattle.sender.proofs.Sender.Laws as S′
 use Rattle.sender.proofs.clocking.Sending as G
 use Rattle.sender.proofs.clocking.Sending.Laws as G′
 use Rattle.sender.proofs.clocking.judge as judging
-use Rattle.settings.proofs.Judged.is_ready as is-ready
+use Rattle.settings.proofs.Judged.is_first as is-first
+use Rattle.settings.proofs.Judged.is_later as is-later
 use Rattle.settings.proofs.Judged.is_early as is-early
 use Rattle.sender.proofs.clocking.refused as refusing
-use Rattle.sender.proofs.clocking.is_first as is-first
 use Rattle.writer.proofs.Answer.by_size as by-size
 use Rattle.writer.proofs.Answer.is_quiet as is-quiet
 use Rattle.writer.proofs.Answer.is_sent as is-sent
@@ -80,17 +80,17 @@ module _ {M : Type 1} (𝓤 : URA M) (H : Heap 𝓤) (A : Atoms 𝓤) (mem′ : 
   abbrev pub Judging : Contract 𝓤
   Judging = tripleOf 𝓤 H A judging.signature (judging.spec 𝓤 H A mem′ run)
 
-  abbrev pub IsReady : Contract 𝓤
-  IsReady = tripleOf 𝓤 H A is-ready.signature (is-ready.spec 𝓤 H A mem′ run)
+  abbrev pub IsFirst : Contract 𝓤
+  IsFirst = tripleOf 𝓤 H A is-first.signature (is-first.spec 𝓤 H A mem′ run)
+
+  abbrev pub IsLater : Contract 𝓤
+  IsLater = tripleOf 𝓤 H A is-later.signature (is-later.spec 𝓤 H A mem′ run)
 
   abbrev pub IsEarly : Contract 𝓤
   IsEarly = tripleOf 𝓤 H A is-early.signature (is-early.spec 𝓤 H A mem′ run)
 
   abbrev pub Refusing : Contract 𝓤
   Refusing = tripleOf 𝓤 H A refusing.signature (refusing.spec 𝓤 H A mem′ run)
-
-  abbrev pub IsFirst : Contract 𝓤
-  IsFirst = tripleOf 𝓤 H A is-first.signature (is-first.spec 𝓤 H A mem′ run)
 
   abbrev pub BySize : Contract 𝓤
   BySize = tripleOf 𝓤 H A by-size.signature (by-size.spec 𝓤 H A mem′ run)
@@ -111,17 +111,17 @@ module _ {M : Type 1} (𝓤 : URA M) (H : Heap 𝓤) (A : Atoms 𝓤) (mem′ : 
     pub goes-judge : (x : senders .row .Denot) → Known senders x → (z : sizes .row .Denot) → Known sizes z → ent 𝓤 (emp 𝓤) (Judging .pre (with-two senders sizes x z))
     goes-judge x is z ok = qed W [] ∵ nothing ! $ had sizes ! z ok $ fjoin ! $ had senders ! x is $ fjoin ! $ nothing ! $ join ! $ frame ! $ done !
 
-    pub goes-ready : (x : judgements .row .Denot) → Known judgements x → ent 𝓤 (emp 𝓤) (IsReady .pre (with-one judgements x))
-    goes-ready x is = qed W [] ∵ nothing ! $ had judgements ! x is $ fjoin ! $ nothing ! $ join ! $ frame ! $ done !
+    pub goes-first : (x : judgements .row .Denot) → Known judgements x → ent 𝓤 (emp 𝓤) (IsFirst .pre (with-one judgements x))
+    goes-first x is = qed W [] ∵ nothing ! $ had judgements ! x is $ fjoin ! $ nothing ! $ join ! $ frame ! $ done !
+
+    pub goes-later : (x : judgements .row .Denot) → Known judgements x → ent 𝓤 (emp 𝓤) (IsLater .pre (with-one judgements x))
+    goes-later x is = qed W [] ∵ nothing ! $ had judgements ! x is $ fjoin ! $ nothing ! $ join ! $ frame ! $ done !
 
     pub goes-early : (x : judgements .row .Denot) → Known judgements x → ent 𝓤 (emp 𝓤) (IsEarly .pre (with-one judgements x))
     goes-early x is = qed W [] ∵ nothing ! $ had judgements ! x is $ fjoin ! $ nothing ! $ join ! $ frame ! $ done !
 
     pub goes-refuse : (x : judgements .row .Denot) → Known judgements x → ent 𝓤 (emp 𝓤) (Refusing .pre (with-one judgements x))
     goes-refuse x is = qed W [] ∵ nothing ! $ had judgements ! x is $ fjoin ! $ nothing ! $ join ! $ frame ! $ done !
-
-    pub goes-first : (x : senders .row .Denot) → Known senders x → ent 𝓤 (emp 𝓤) (IsFirst .pre (with-one senders x))
-    goes-first x is = qed W [] ∵ nothing ! $ had senders ! x is $ fjoin ! $ nothing ! $ join ! $ frame ! $ done !
 
     pub goes-by-size : (x : sizes .row .Denot) → Known sizes x → (z : sizes .row .Denot) → Known sizes z → ent 𝓤 (emp 𝓤) (BySize .pre (with-two sizes sizes x z))
     goes-by-size x is z ok = qed W [] ∵ nothing ! $ had sizes ! z ok $ fjoin ! $ had sizes ! x is $ fjoin ! $ nothing ! $ join ! $ frame ! $ done !

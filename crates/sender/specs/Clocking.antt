@@ -2,11 +2,12 @@
 use Prim.Native.Nat.{ℕ, _+_, _-_, _%_, min}
 use mathlib.Core.Path.{_≡_}
 use mathlib.Core.List.{List}
-use mathlib.Core.Bool.{Bool, cond, not, _||_, _&&_}
+use mathlib.Core.Bool.{Bool, true, cond, not, _||_, _&&_}
 use lib.Dec.{ltb, eqb}
 use lib.ListN.{length}
 use Rattle.base.specs.Flags.{isSet}
 use Rattle.sender.specs.declared.Sender.{Sender}
+use Rattle.sender.specs.declared.clocking.Sending.{Sending}
 use Rattle.text_spec.specs.Front.{front}
 use Rattle.sender_spec.specs.Limits.{roomSize}
 use Rattle.sender_spec.specs.Packets.{going, taken}
@@ -33,15 +34,12 @@ judgementAt s t = judgementOf (settingsOf (s .settings)) (s .clock) (progressOf 
 abbrev pub refusedBy : Judged → Answer
 refusedBy (Judgements.Refused r) = Refused r
 refusedBy Judgements.Early = Quiet
-refusedBy Judgements.Ready = Quiet
-
--- no packet was sent yet
-abbrev pub isFirst : Sender → Bool
-isFirst s = not (isSet (s .progress .sent))
+refusedBy Judgements.First = Quiet
+refusedBy Judgements.Later = Quiet
 
 -- M of a packet that takes so many bytes of what waits
 abbrev pub markerDue : Sender → ℕ → Bool
-markerDue s n = isFirst s || (ltb 0 n && ltb (s .settings .buffering) (s .waiting .since - s .progress .«last_text»))
+markerDue s n = not (isSet (s .progress .sent)) || (ltb 0 n && ltb (s .settings .buffering) (s .waiting .since - s .progress .«last_text»))
 
 -- how many bytes a packet takes of what waits, of whose c characters k may go
 abbrev pub takenBytes : List ℕ → Waiting → ℕ → ℕ → ℕ
@@ -92,6 +90,22 @@ recordBehind (Refused r) s t n k = s
 recordBehind Quiet s t n k = recordAt s t
 recordBehind (Sent l) s t n k = recordAfter s t n k
 
+-- the same of the code's record: the pace that `put` left
+abbrev pub recordSent : Sender → ℕ → Sending → Sender
+recordSent s t g = record {
+  settings = s .settings;
+  clock = t;
+  waiting = leftOf (s .waiting) (g .len) (g .characters) t;
+  kept = keptWith (s .kept) (g .len) t;
+  pace = g .pace;
+  progress = progressBehind (s .progress) (g .len) t;
+}
+
+abbrev pub recordBy : Answer → Sender → ℕ → Sending → Sender
+recordBy (Refused r) s t g = s
+recordBy Quiet s t g = recordAt s t
+recordBy (Sent l) s t g = recordSent s t g
+
 -- what is left of what waits begins the next slot
 abbrev pub textsBehind : Answer → Sender → List ℕ → ℕ → List ℕ
 textsBehind (Refused r) s texts n = texts
@@ -112,7 +126,7 @@ pub record Clocks (s : Sender) (texts log : List ℕ) (t : ℕ) (p : List ℕ) (
   pub bytes : texts' ≡ textsBehind r s texts (length (taken (stateOf s texts log) t))
   pub times : log' ≡ logBehind r s log t (going (stateOf s texts log) t)
 
--- what a call that is ready answers, by the packet's length n; b tells whether it is the first
-abbrev pub Sends : Sender → List ℕ → List ℕ → ℕ → List ℕ → Bool → ℕ → Sender → List ℕ → List ℕ → List ℕ → Type 0
-Sends s texts log t p b n s' texts' log' p' =
-    ready ≡ judgementAt s t → b ≡ isFirst s → Clocks s texts log t p (answerBy n (length p)) s' texts' log' p'
+-- what a call that is ready answers, by the packet's length n
+abbrev pub Sends : Sender → List ℕ → List ℕ → ℕ → List ℕ → ℕ → Sender → List ℕ → List ℕ → List ℕ → Type 0
+Sends s texts log t p n s' texts' log' p' =
+    ready (judgementAt s t) ≡ true → Clocks s texts log t p (answerBy n (length p)) s' texts' log' p'

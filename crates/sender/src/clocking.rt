@@ -1,26 +1,27 @@
 // The clock call.
 ghost use mathlib.Core.Path.{_≡_};
-ghost use mathlib.Core.Bool.{_||_};
 ghost use lib.ListN.{length, take, drop};
 ghost use Prim.Native.Nat.{_-_, _≤_};
 ghost use Rattle.text_spec.specs.Front.{front};
 ghost use Rattle.settings.specs.Judging.{judged};
 ghost use Rattle.writer.specs.Draft.{answerBy};
-ghost use Rattle.sender.specs.Clocking.{judgementAt, refusedBy, isFirst, markerDue, takenBytes, draftOf, recordAt, recordAfter, recordBehind, Sends};
+ghost use Rattle.sender.specs.Clocking.{judgementAt, refusedBy, markerDue, takenBytes, draftOf, recordAt, recordSent, recordBy, Sends};
 use crate::Sender;
 use numbers::least;
+use rate::Pace;
 use settings::Judged;
 use slots::Texts;
 use slots::Waiting;
 use writer::Answer;
 use writer::Draft;
 
-// What a call that is ready comes to: the packet's length, 0 where there is nothing to send, and how many bytes and characters it
-// takes of what waits.
+// What a call that is ready comes to: the packet's length, 0 where there is nothing to send, how many bytes and characters it takes
+// of what waits, and the pace that it leaves.
 pub struct Sending {
     pub size: usize,
     pub len: usize,
     pub characters: usize,
+    pub pace: Pace,
 }
 
 fn draft(sender: Sender, clock: u64, marker: bool, len: usize) -> Draft
@@ -66,31 +67,19 @@ pub fn refused(judgement: Judged) -> Answer
     match judgement {
         Judged::Refused(refusal) => Answer::Refused(refusal),
         Judged::Early => Answer::Quiet,
-        Judged::Ready => Answer::Quiet,
+        Judged::First => Answer::Quiet,
+        Judged::Later => Answer::Quiet,
     }
-}
-
-// No packet was sent yet.
-pub fn is_first(sender: Sender) -> bool
-    ensures { λ r. ⌜ r ≡ isFirst sender ⌝ }
-{
-    let progress = sender.progress;
-    let sent = progress.has_sent();
-    !sent
 }
 
 // M of a packet that takes so many bytes.
-fn marker(sender: Sender, first: bool, len: usize) -> bool
-    ensures { λ r. ⌜ r ≡ (first || markerDue sender len) ⌝ }
+fn marker(sender: Sender, len: usize) -> bool
+    ensures { λ r. ⌜ r ≡ markerDue sender len ⌝ }
 {
-    if first {
-        return true;
-    }
     let settings = sender.settings;
     let progress = sender.progress;
     let waiting = sender.waiting;
-    let takes = 0 < len;
-    settings::marker(progress, settings.buffering, takes, waiting.since)
+    settings::marker(progress, settings.buffering, len, waiting.since)
 }
 
 fn front_of(texts: &[u8], from: usize, end: usize, most: usize) -> usize
@@ -119,9 +108,8 @@ pub fn put(
     log: &mut [u64; Sender::LOG],
     clock: u64,
     packet: &mut [u8],
-    first: bool,
 ) -> Sending
-    ensures { λ r. ⌜ Sends sender (now (texts .entry)) (now (log .entry)) clock (now (packet .entry)) first (r .size) (recordBehind (answerBy (r .size) (length (now (packet .entry)))) sender clock (r .len) (r .characters)) (now (texts .exit)) (now (log .exit)) (now (packet .exit)) ⌝ }
+    ensures { λ r. ⌜ Sends sender (now (texts .entry)) (now (log .entry)) clock (now (packet .entry)) (r .size) (recordBy (answerBy (r .size) (length (now (packet .entry)))) sender clock r) (now (texts .exit)) (now (log .exit)) (now (packet .exit)) ⌝ }
 {
     let settings = sender.settings;
     let waiting = sender.waiting;
@@ -129,21 +117,26 @@ pub fn put(
     let characters = least(waiting.characters, Texts::ROOM);
     let going = pace.allowed(settings.rate, log, clock, characters);
     let len = taken(waiting, texts, characters, going);
-    let marker = marker(sender, first, len);
+    let marker = marker(sender, len);
     let draft = draft(sender, clock, marker, len);
     let size = writer::put_packet(packet, texts, draft);
-    let sending = Sending {
+    let answer = Answer::by_size(size, packet.len());
+    if !answer.is_sent() {
+        return Sending {
+            size,
+            len,
+            characters: going,
+            pace,
+        };
+    }
+    let next = pace.spend(settings.rate, log, clock, going);
+    slots::keep_rest(texts, waiting.room, waiting.len, len);
+    Sending {
         size,
         len,
         characters: going,
-    };
-    let answer = Answer::by_size(size, packet.len());
-    if !answer.is_sent() {
-        return sending;
+        pace: next,
     }
-    pace.spend(settings.rate, log, clock, going);
-    slots::keep_rest(texts, waiting.room, waiting.len, len);
-    sending
 }
 
 // The sender behind a quiet call.
@@ -157,18 +150,19 @@ pub fn at(sender: Sender, clock: u64) -> Sender
 
 // The sender behind the packet that it sends.
 pub fn after(sender: Sender, clock: u64, sending: Sending) -> Sender
-    ensures { λ r. ⌜ r ≡ recordAfter sender clock (sending .len) (sending .characters) ⌝ }
+    ensures { λ r. ⌜ r ≡ recordSent sender clock sending ⌝ }
 {
     let settings = sender.settings;
     let waiting = sender.waiting;
     let kept = sender.kept;
-    let pace = sender.pace;
+    let pace = sending.pace;
     let progress = sender.progress;
-    let mut next = sender;
-    next.clock = clock;
-    next.waiting = waiting.after(sending.len, sending.characters, clock);
-    next.kept = kept.with(sending.len, clock);
-    next.pace = pace.after(settings.rate, sending.characters);
-    next.progress = progress.after(sending.len, clock);
-    next
+    Sender {
+        settings,
+        clock,
+        waiting: waiting.after(sending.len, sending.characters, clock),
+        kept: kept.with(sending.len, clock),
+        pace,
+        progress: progress.after(sending.len, clock),
+    }
 }

@@ -92,12 +92,12 @@ impl Sender {
         ensures { λ r. ⌜ Clocks (now (self .entry)) (now (texts .entry)) (now (log .entry)) clock (now (packet .entry)) r (now (self .exit)) (now (texts .exit)) (now (log .exit)) (now (packet .exit)) ⌝ }
     {
         let judgement = clocking::judge(*self, clock);
-        if judgement.is_ready() {
-            if clocking::is_first(*self) {
-                let size = self.send(texts, log, clock, packet, true);
-                return Answer::by_size(size, packet.len());
-            }
-            let size = self.send(texts, log, clock, packet, false);
+        if judgement.is_first() {
+            let size = self.send(texts, log, clock, packet);
+            return Answer::by_size(size, packet.len());
+        }
+        if judgement.is_later() {
+            let size = self.send(texts, log, clock, packet);
             return Answer::by_size(size, packet.len());
         }
         if judgement.is_early() {
@@ -107,20 +107,19 @@ impl Sender {
         clocking::refused(judgement)
     }
 
-    // Sends the packet of a call that is ready, the first or a later one, where there is something to send and the space holds
-    // it; the packet's length, as `put` answers it. It stands apart and is called in two places, so that it is not inlined and a
-    // quiet call saves no registers for it.
+    // Sends the packet of a call that is ready, where there is something to send and the space holds it; the packet's length, as
+    // `put` answers it. It stands apart and is called in two places, so that it is not inlined and a quiet call saves no registers
+    // for it.
     fn send(
         &mut self,
         texts: &mut [u8; Sender::TEXTS],
         log: &mut [u64; Sender::LOG],
         clock: u64,
         packet: &mut [u8],
-        first: bool,
     ) -> usize
-        ensures { λ r. ⌜ Sends (now (self .entry)) (now (texts .entry)) (now (log .entry)) clock (now (packet .entry)) first r (now (self .exit)) (now (texts .exit)) (now (log .exit)) (now (packet .exit)) ⌝ }
+        ensures { λ r. ⌜ Sends (now (self .entry)) (now (texts .entry)) (now (log .entry)) clock (now (packet .entry)) r (now (self .exit)) (now (texts .exit)) (now (log .exit)) (now (packet .exit)) ⌝ }
     {
-        let sending = clocking::put(*self, texts, log, clock, packet, first);
+        let sending = clocking::put(*self, texts, log, clock, packet);
         let size = sending.size;
         let answer = Answer::by_size(size, packet.len());
         if answer.is_quiet() {

@@ -1,10 +1,7 @@
 -- The blocks that a packet carries: few, recent, and such as may be sent.
 use Prim.Native.Nat.{ℕ, suc, _-_, _≤_}
-use mathlib.Core.Path.{_≡_, refl}
 use mathlib.Core.List.{List, [], _∷_, reverse}
-use mathlib.Core.Bool.{Bool, true, false, _&&_}
 use native.Mathlib.Omega.{arith}
-use lib.Dec.{leb}
 use lib.ListN.{length, take, length-take, length-map, length-reverse}
 use borrow.Author.Tests.{leb-true}
 use Rattle.packet_spec.specs.Redundancy
@@ -20,20 +17,13 @@ use Rattle.sender_spec.proofs.StaysSendable.{Sendable, AllSendable, Goo
 abbrev pub Repeatable : Redundancy.Block → Type 0
 Repeatable b = Sendable (b .bytes) × (b .offset ≤ oldestAge)
 
-pub recent-true : (t : ℕ) (b : SentBlock) → recent t b ≡ true → (b .at ≤ t) × (t - b .at ≤ oldestAge)
-recent-true t b e = go (leb (b .at) t) refl e
-  where
-    go : (a : Bool) → leb (b .at) t ≡ a → (a && leb (t - b .at) oldestAge) ≡ true → (b .at ≤ t) × (t - b .at ≤ oldestAge)
-    go true p e = (leb-true (b .at) t p, leb-true (t - b .at) oldestAge e)
-    go false p e = absurd (let z : _≡_ {A = ℕ} 0 1 = cc in omega arith)
-
 module _ (t : ℕ) where
   abbrev Carriable : SentBlock → Type 0
   Carriable b = Repeatable (repeated t b)
 
   run-good : (bs : List SentBlock) → AllSendable bs → Every Carriable (recentRun t bs)
   run-good [] e = tt
-  run-good (b ∷ bs) e = by-test (Every Carriable) (recent t b) (λ r. ((e .0, recent-true t b r .1), run-good bs (e .1))) (λ r. tt)
+  run-good (b ∷ bs) e = by-test (Every Carriable) (recent t b) (λ r. ((e .0, leb-true (t - b .at) oldestAge r), run-good bs (e .1))) (λ r. tt)
 
   pub run-few : (bs : List SentBlock) → length (recentRun t bs) ≤ length bs
   run-few [] = omega arith

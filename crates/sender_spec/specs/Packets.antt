@@ -17,7 +17,7 @@ use Rattle.sender_spec.specs.Rate.{limitOf, allowed}
 
 -- "sent at most 16,383 ms before t"
 abbrev pub recent : ℕ → SentBlock → Bool
-recent t b = leb (b .at) t && leb (t - b .at) oldestAge
+recent t b = leb (t - b .at) oldestAge
 
 -- the longest run from the front
 abbrev pub recentRun : ℕ → List SentBlock → List SentBlock

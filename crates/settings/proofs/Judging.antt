@@ -1,13 +1,12 @@
 -- What a clock call comes to before the texts are looked at, by plain facts.
-use Prim.Native.Nat.{ℕ, _<_, _≤_}
+use Prim.Native.Nat.{ℕ, _-_, _<_, _≤_}
 use mathlib.Core.Path.{_≡_}
 use mathlib.Core.Bool.{true, false}
 use native.Mathlib.Omega.{arith}
-use borrow.Author.Tests.{lt-ltb, le-ltb, ne-eqb}
+use borrow.Author.Tests.{lt-ltb, le-ltb, lt-leb, le-leb, ne-eqb}
 use Rattle.sender_spec.specs.State as State
 use Rattle.sender_spec.specs.Settings.{settingsNumber}
-use Rattle.sender_spec.specs.Packets.{readyAt}
-use Rattle.settings.specs.Judging.{refuses, early, ready, judgementOf}
+use Rattle.settings.specs.Judging.{refuses, early, first, later, judgementOf}
 
 module _ (s : State.Settings) (latest : ℕ) (p : State.Progress) (t : ℕ) (n : ℕ) (e : n ≡ settingsNumber s) where
   pub judge-settings : 1 ≤ n → judgementOf s latest p t ≡ refuses n
@@ -17,9 +16,13 @@ module _ (s : State.Settings) (latest : ℕ) (p : State.Progress) (t : ℕ) (n :
     pub judge-5 : t < latest → judgementOf s latest p t ≡ refuses 5
     judge-5 h = rw (← e, ok, lt-ltb t latest h)
 
-    module _ (later : latest ≤ t) where
-      pub judge-ready : readyAt (s .buffering) p t ≡ true → judgementOf s latest p t ≡ ready
-      judge-ready h = rw (← e, ok, le-ltb t latest later, h)
+    module _ (onward : latest ≤ t) where
+      pub judge-first : p .sent ≡ false → judgementOf s latest p t ≡ first
+      judge-first h = rw (← e, ok, le-ltb t latest onward, h)
 
-      pub judge-early : readyAt (s .buffering) p t ≡ false → judgementOf s latest p t ≡ early
-      judge-early h = rw (← e, ok, le-ltb t latest later, h)
+      module _ (sent : p .sent ≡ true) where
+        pub judge-later : s .buffering ≤ t - p .last → judgementOf s latest p t ≡ later
+        judge-later h = rw (← e, ok, le-ltb t latest onward, sent, le-leb (s .buffering) (t - p .last) h)
+
+        pub judge-early : t - p .last < s .buffering → judgementOf s latest p t ≡ early
+        judge-early h = rw (← e, ok, le-ltb t latest onward, sent, lt-leb (s .buffering) (t - p .last) h)

@@ -6,9 +6,8 @@ ghost use Prim.Native.Nat.{_+_, _-_, _%_};
 ghost use Rattle.base.specs.Flags.{isSet};
 ghost use Rattle.packet.specs.Refusal.{outcomeNumber};
 ghost use Rattle.sender_spec.specs.Settings.{bufferingBad, rateBad, settingsNumber};
-ghost use Rattle.sender_spec.specs.Packets.{readyAt};
 ghost use Rattle.settings.specs.State.{settingsOf, progressOf, progressBehind};
-ghost use Rattle.settings.specs.Judging.{judged, isEarly, isReady, judgementOf};
+ghost use Rattle.settings.specs.Judging.{judged, isEarly, isFirst, isLater, judgementOf};
 use packet::Outcome;
 use packet::Packet;
 use packet::Refusal;
@@ -54,8 +53,10 @@ pub enum Judged {
     Refused(Refusal),
     // No packet is due yet.
     Early,
-    // A packet is due if it has text.
-    Ready,
+    // None was sent yet: the first packet is due if it has text.
+    First,
+    // The buffering time has passed since the last: one more is due if it has text.
+    Later,
 }
 
 impl Judged {
@@ -65,17 +66,30 @@ impl Judged {
         match self {
             Judged::Early => true,
             Judged::Refused(_) => false,
-            Judged::Ready => false,
+            Judged::First => false,
+            Judged::Later => false,
         }
     }
 
-    pub fn is_ready(self) -> bool
-        ensures { λ r. ⌜ r ≡ isReady self ⌝ }
+    pub fn is_first(self) -> bool
+        ensures { λ r. ⌜ r ≡ isFirst self ⌝ }
     {
         match self {
-            Judged::Ready => true,
+            Judged::First => true,
             Judged::Refused(_) => false,
             Judged::Early => false,
+            Judged::Later => false,
+        }
+    }
+
+    pub fn is_later(self) -> bool
+        ensures { λ r. ⌜ r ≡ isLater self ⌝ }
+    {
+        match self {
+            Judged::Later => true,
+            Judged::Refused(_) => false,
+            Judged::Early => false,
+            Judged::First => false,
         }
     }
 }
@@ -118,17 +132,6 @@ pub fn settings_outcome(settings: Settings) -> Outcome
     Outcome::Accepted
 }
 
-// None was sent yet, or the buffering time has passed since the last.
-fn ready(progress: Progress, buffering: u64, clock: u64) -> bool
-    ensures { λ r. ⌜ r ≡ readyAt buffering (progressOf progress) clock ⌝ }
-{
-    if progress.has_sent() {
-        let waited = numbers::passed(clock, progress.last);
-        return buffering <= waited;
-    }
-    true
-}
-
 // Judges the clock that is given to a sender with these settings, this latest accepted clock and this progress.
 pub fn judge(settings: Settings, latest: u64, progress: Progress, clock: u64) -> Judged
     ensures { λ r. ⌜ judged r ≡ judgementOf (settingsOf settings) latest (progressOf progress) clock ⌝ }
@@ -141,20 +144,24 @@ pub fn judge(settings: Settings, latest: u64, progress: Progress, clock: u64) ->
     if clock < latest {
         return Judged::Refused(Refusal::Clock);
     }
-    if ready(progress, settings.buffering, clock) {
-        return Judged::Ready;
+    if !progress.has_sent() {
+        return Judged::First;
+    }
+    let waited = numbers::passed(clock, progress.last);
+    if settings.buffering <= waited {
+        return Judged::Later;
     }
     Judged::Early
 }
 
-// M of a packet, by whether text waits, and when its first byte was offered.
-pub fn marker(progress: Progress, buffering: u64, waits: bool, since: u64) -> bool
-    ensures { λ r. ⌜ r ≡ (not (isSet (progress .sent)) || (waits && ltb buffering (since - progress .«last_text»))) ⌝ }
+// M of a packet, by how many bytes it takes of what waits, and when the first of them was offered.
+pub fn marker(progress: Progress, buffering: u64, len: usize, since: u64) -> bool
+    ensures { λ r. ⌜ r ≡ (not (isSet (progress .sent)) || (ltb 0 len && ltb buffering (since - progress .«last_text»))) ⌝ }
 {
     if !progress.has_sent() {
         return true;
     }
-    if !waits {
+    if len == 0 {
         return false;
     }
     let waited = numbers::passed(since, progress.last_text);

@@ -1,3 +1,4 @@
+pub mod Replaced
 pub mod Slots
 pub mod TextsSize
 pub mod KeptBlocks

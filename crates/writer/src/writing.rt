@@ -1,24 +1,29 @@
 // Writes the texts of a packet.
 ghost use mathlib.Core.Path.{_≡_};
-ghost use Prim.Native.Nat.{_≤_, _<_};
+ghost use Prim.Native.Nat.{_+_, _*_, _≤_};
 ghost use lib.ListN.{length};
 ghost use Rattle.base.specs.Arrays.{over};
 ghost use Rattle.packet_spec.specs.Limits.{level};
+ghost use Rattle.sender_spec.specs.Limits.{roomSize};
 ghost use Rattle.slots.specs.Slots.{slots, slotOf, slotText, textsSize};
 ghost use Rattle.writer.specs.internal.Parts.{textsOf};
 use packet::Packet;
 use slots::Texts;
 
-// The slot so many packets back.
-fn slot(room: usize, back: usize) -> usize
+// A text of fewer bytes is a short one.
+const SHORT: usize = 4;
+
+// Where the slot so many packets back begins.
+fn start(room: usize, back: usize) -> usize
     requires { ⌜ back ≤ slots ⌝ }
-    ensures { λ r. ⌜ (r ≡ slotOf room back) × (r < slots) ⌝ }
+    ensures { λ r. ⌜ (r ≡ slotOf room back * roomSize) × (r + roomSize ≤ textsSize) ⌝ }
 {
-    let room = slots::room_of(room);
-    if back <= room {
-        return room - back;
+    let at = slots::room_of(room) * Texts::ROOM;
+    let before = back * Texts::ROOM;
+    if before <= at {
+        return at - before;
     }
-    room + Texts::SLOTS - back
+    at + Texts::SIZE - before
 }
 
 // The text of so many packets back, or with 0 what waits; its length.
@@ -27,10 +32,33 @@ fn put_text(to: &mut [u8], texts: &[u8], room: usize, back: usize, len: usize) -
     ensures { λ r. ⌜ (r ≡ length (slotText (now (texts .entry)) (slotOf room back) len)) × (now (to .exit) ≡ over (slotText (now (texts .entry)) (slotOf room back) len) (now (to .entry))) ⌝ }
 {
     let size = numbers::least(len, Texts::ROOM);
-    let from = slot(room, back) * Texts::ROOM;
+    let from = start(room, back);
     let end = from + size;
-    bytes::copy(&texts[from..end], to);
+    copy(&texts[from..end], to);
     size
+}
+
+// Copies to the front. A typed text is a letter or two: so few go one by one, which costs less than a copy made for many.
+fn copy(src: &[u8], dst: &mut [u8])
+    requires { ⌜ length (now src) ≤ length (now dst) ⌝ }
+    ensures { λ _. ⌜ now (dst .exit) ≡ over (now (src .entry)) (now (dst .entry)) ⌝ }
+{
+    if src.len() < SHORT {
+        copy_few(src, dst);
+        return;
+    }
+    bytes::copy(src, dst);
+}
+
+fn copy_few(src: &[u8], dst: &mut [u8])
+    requires { ⌜ length (now src) ≤ length (now dst) ⌝ }
+    ensures { λ _. ⌜ now (dst .exit) ≡ over (now (src .entry)) (now (dst .entry)) ⌝ }
+{
+    let mut i = 0;
+    while i < src.len() {
+        dst[i] = src[i];
+        i += 1;
+    }
 }
 
 // The texts of the first `count` blocks, the last of them first, and what waits. The loop is such that it is unrolled, as that of

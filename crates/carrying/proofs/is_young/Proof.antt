@@ -1,12 +1,16 @@
-use Rattle.base.proofs.Cases.{cases}
+use Prim.Native.Nat.{ℕ}
+use mathlib.Core.Path.{ap}
+use lib.Dec.{leb}
+use borrow.Author.Needs.{needs}
+use Rattle.delivery.specs.Run.{oldestAge}
 use Rattle.carrying.proofs.is_young.Statement.{statement}
 use Rattle.carrying.proofs.is_young.Tie as tie
 
-returns : tie.Need-returns
-returns c = search cases
+passed-requires : tie.Need-passed-requires
+passed-requires c κs = search needs
 
-returns-2 : tie.Need-returns-2
-returns-2 c = search cases
+returns : tie.Need-returns
+returns c = ap (λ (age : ℕ). leb age oldestAge) (c .passed .ensures)
 
 pub is-young-spec : {M : Type 1} → statement M
-is-young-spec = tie.close (tie.spec returns returns-2)
+is-young-spec = tie.close (tie.spec passed-requires returns)

@@ -1,14 +1,14 @@
 -- The blocks that may still be repeated, by their lengths and times, newest first.
 use Prim.Native.Nat.{ℕ, suc, _+_, _-_, min}
 use mathlib.Core.List.{List, [], _∷_}
-use mathlib.Core.Bool.{Bool, cond, _&&_}
+use mathlib.Core.Bool.{Bool, cond}
 use lib.Dec.{leb}
 use Rattle.delivery.specs.Run.{oldestAge}
 use Rattle.sender_spec.specs.Limits.{roomSize}
 
 -- a block that was sent at this time may be repeated at t
 abbrev pub young : ℕ → ℕ → Bool
-young t at = leb at t && leb (t - at) oldestAge
+young t at = leb (t - at) oldestAge
 
 -- how many of the first times are young
 abbrev pub youngRun : ℕ → List ℕ → ℕ

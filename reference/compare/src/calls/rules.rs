@@ -101,11 +101,15 @@ fn taken(sender: &Meaning, times: &[u64], clock: u64) -> Taken {
     Taken { bytes, characters }
 }
 
+fn age(block: &Block, clock: u64) -> u64 {
+    clock.saturating_sub(block.at)
+}
+
 /// The blocks that a packet at this clock repeats, newest first.
 fn run(sender: &Meaning, clock: u64) -> &[Block] {
     let blocks = &sender.blocks;
     let most = sender.settings.level.min(blocks.len());
-    let fresh = |block: &&Block| block.at <= clock && clock - block.at <= OLDEST;
+    let fresh = |block: &&Block| age(block, clock) <= OLDEST;
     let run = blocks[..most].iter().take_while(fresh).count();
     &blocks[..run]
 }
@@ -133,7 +137,7 @@ fn packet(sender: &Meaning, clock: u64, taken: Taken) -> Vec<u8> {
     packet.extend(settings.source.to_be_bytes());
     let run = run(sender, clock);
     for block in run.iter().rev() {
-        let offset = ((clock - block.at) as u32) << 10;
+        let offset = (age(block, clock) as u32) << 10;
         let header = offset | block.text.len() as u32;
         packet.push(0x80 | settings.t140);
         packet.extend(&header.to_be_bytes()[1..]);

@@ -11,21 +11,18 @@ with-requires c κs = search needs
 after-requires-2 : tie.Need-after-requires-2
 after-requires-2 c κs = search needs
 
-after-requires-3 : tie.Need-after-requires-3
-after-requires-3 c κs = search needs
-
 returns : tie.Need-returns
 returns c =
-    let a = c .before .before .before .before .before .before .before .before .before .args in
+    let a = c .before .before .before .before .before .before .before .before .args in
     λ i. record {
       settings = a .sender .settings;
       clock = a .clock;
-      waiting = c .before .before .before .after .ensures i;
-      kept = c .before .before .with .ensures i;
-      pace = c .before .after2 .ensures i;
-      progress = c .after3 .ensures i;
+      waiting = c .before .before .after .ensures i;
+      kept = c .before .with .ensures i;
+      pace = a .sending .pace;
+      progress = c .after2 .ensures i;
     }
 
 pub after-spec : {M : Type 1} → statement M
 after-spec =
-    tie.close (tie.spec after-requires with-requires after-requires-2 after-requires-3 returns)
+    tie.close (tie.spec after-requires with-requires after-requires-2 returns)

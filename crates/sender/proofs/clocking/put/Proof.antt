@@ -7,13 +7,16 @@ use lib.ListN.{length}
 use borrow.Author.Tests.{not-false}
 use borrow.Author.Needs.{needs}
 use denote.Ref.{now}
-use Rattle.rate.specs.Circle.{logSize}
-use Rattle.settings.specs.Judging as Judging
+use Rattle.rate.specs.declared.Pace.{Pace}
+use Rattle.rate.specs.Circle.{logSize, paceAfter}
+use Rattle.settings.specs.Judging.{ready}
+use Rattle.sender.specs.declared.Sender.{Sender}
+use Rattle.sender.specs.declared.clocking.Sending.{Sending}
 use Rattle.writer.specs.declared.Draft.{Draft}
 use Rattle.writer.specs.declared.Answer.{Answer}
 use Rattle.writer.specs.Draft.{answerBy, isSent, putOf}
-use Rattle.sender.specs.Clocking.{judgementAt, isFirst, recordBehind, textsBehind, logBehind, Clocks}
-use Rattle.sender.proofs.RecordLeft.{texts-stay, texts-left, log-stays, log-left}
+use Rattle.sender.specs.Clocking.{judgementAt, recordBy, textsBehind, logBehind, Clocks}
+use Rattle.sender.proofs.RecordLeft.{by-is, texts-stay, texts-left, log-stays, log-left}
 use Rattle.sender.proofs.ClockAnswered.{put-is}
 use Rattle.sender.proofs.clocking.put.Statement.{statement}
 use Rattle.sender.proofs.clocking.put.Tie as tie
@@ -59,21 +62,26 @@ goingAt c = c .before .before .before .before .before .before .before .allowed .
 abbrev answerAt : tie.After-put-packet → Answer
 answerAt c = answerBy (c .put-packet .result) (length (now (start c .args .packet)))
 
--- what it comes to, with the texts and the log that are left
+abbrev sendingAt : tie.After-put-packet → Pace → Sending
+sendingAt c pace = record { size = c .put-packet .result; len = bytesAt c; characters = goingAt c; pace = pace }
+
+-- what it comes to, with the pace, the texts and the log that are left
 answers : (c : tie.After-put-packet) →
     let a = start c .args in
-    Judging.ready ≡ judgementAt (a .sender) (a .clock) → a .first ≡ isFirst (a .sender) → (texts log : List ℕ)
+    ready (judgementAt (a .sender) (a .clock)) ≡ true → (pace : Pace) (texts log : List ℕ)
+    → (Holds (isSent (answerAt c)) → pace ≡ paceAfter (a .sender .pace) (a .sender .settings .rate) (goingAt c))
     → (Holds (isSent (answerAt c)) → length (now (a .log)) ≡ logSize)
     → texts ≡ textsBehind (answerAt c) (a .sender) (now (a .texts)) (bytesAt c) → log ≡ logBehind (answerAt c) (a .sender) (now (a .log)) (a .clock) (goingAt c)
-    → Clocks (a .sender) (now (a .texts)) (now (a .log)) (a .clock) (now (a .packet)) (answerAt c) (recordBehind (answerAt c) (a .sender) (a .clock) (bytesAt c) (goingAt c)) texts log (c .put-packet .last .0)
-answers c known began texts log long same there =
+    → Clocks (a .sender) (now (a .texts)) (now (a .log)) (a .clock) (now (a .packet)) (answerAt c) (recordBy (answerAt c) (a .sender) (a .clock) (sendingAt c pace)) texts log (c .put-packet .last .0)
+answers c known pace texts log paced long same there =
     let a = start c .args in
     let put = c .put-packet in
     let marker = c .before .before .before .before .marker in
     let least = c .before .before .before .before .before .before .before .before .before .least in
-    put-is (a .sender) (now (a .texts)) (now (a .log)) (a .clock) (now (a .packet)) (put .ensures .1) known (least .result) (goingAt c) (bytesAt c) (a .first) (marker .result)
-    (least .ensures) (c .before .before .before .before .before .before .before .allowed .ensures) (c .before .before .before .before .before .taken .ensures) began (marker .ensures)
-    (answerAt c) texts log (put .last .0) long (put .ensures .0 ∙ ap (λ (d : Draft). putOf d (now (a .texts)) (now (a .packet))) (c .before .before .before .draft .ensures)) same there
+    subst (λ (s : Sender). Clocks (a .sender) (now (a .texts)) (now (a .log)) (a .clock) (now (a .packet)) (answerAt c) s texts log (put .last .0)) (by-is (a .sender) (a .clock) (sendingAt c pace) (answerAt c) paced)
+    (put-is (a .sender) (now (a .texts)) (now (a .log)) (a .clock) (now (a .packet)) (put .ensures .1) known (least .result) (goingAt c) (bytesAt c) (marker .result)
+    (least .ensures) (c .before .before .before .before .before .before .before .allowed .ensures) (c .before .before .before .before .before .taken .ensures) (marker .ensures)
+    (answerAt c) texts log (put .last .0) long (put .ensures .0 ∙ ap (λ (d : Draft). putOf d (now (a .texts)) (now (a .packet))) (c .before .before .before .draft .ensures)) same there)
 
 same-space : (c : tie.After-put-packet) → length (c .put-packet .last .0) ≡ length (now (start c .args .packet))
 same-space c = search needs
@@ -87,11 +95,11 @@ same-length : tie.Need-same-length
 same-length c = search needs
 
 returns : tie.Need-returns
-returns c known began =
+returns c known =
     let put = c .before .before .before .before .before in
     let a = start put .args in
     let no : Holds (not (isSent (answerAt put))) = subst (λ (b : Bool). Holds (not b)) (sent-is (c .before)) (subst Holds (sym (c .if1 .taken)) tt) in
-    answers put known began (now (a .texts)) (now (a .log)) (λ h. absurd (apart (isSent (answerAt put)) h no))
+    answers put known (a .sender .pace) (now (a .texts)) (now (a .log)) (λ h. absurd (apart (isSent (answerAt put)) h no)) (λ h. absurd (apart (isSent (answerAt put)) h no))
     (texts-stay (a .sender) (now (a .texts)) (bytesAt put) (answerAt put) no) (log-stays (a .sender) (now (a .log)) (a .clock) (goingAt put) (answerAt put) no)
 
 spend-requires : tie.Need-spend-requires
@@ -104,15 +112,15 @@ same-length-2 : tie.Need-same-length-2
 same-length-2 c = search needs
 
 returns-2 : tie.Need-returns-2
-returns-2 c known began =
+returns-2 c known =
     let put = c .before .before .before .before .before .before .before .before .before in
     let a = start put .args in
     let spend = c .before .before .spend in
     let tested = c .before .before .before .before in
     let yes : Holds (isSent (answerAt put)) = subst Holds (sent-is (tested .before)) (subst Holds (sym (not-false (tested .before .is-sent .result) (tested .if1 .left))) tt) in
-    answers put known began (c .keep-rest .last .0) (spend .last .1 .1 .0) (λ h. spend .ensures .1)
+    answers put known (spend .result) (c .keep-rest .last .0) (spend .last .1 .1 .0) (λ h. spend .ensures .0) (λ h. spend .ensures .2)
     (c .keep-rest .ensures ∙ texts-left (a .sender) (now (a .texts)) (bytesAt put) (answerAt put) yes)
-    (spend .ensures .0 ∙ log-left (a .sender) (now (a .log)) (a .clock) (goingAt put) (answerAt put) yes)
+    (spend .ensures .1 ∙ log-left (a .sender) (now (a .log)) (a .clock) (goingAt put) (answerAt put) yes)
 
 pub put-spec : {M : Type 1} → statement M
 put-spec =

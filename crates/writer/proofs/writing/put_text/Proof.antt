@@ -1,11 +1,10 @@
-use Prim.Native.Nat.{ℕ, _-_, _*_, _+_, min}
+use Prim.Native.Nat.{ℕ, _-_, _+_, min}
 use mathlib.Core.Path.{_≡_, _∙_, ap, sym}
 use mathlib.Core.List.{List}
 use native.Mathlib.Omega.{arith}
 use lib.ListN.{length, take, drop}
 use denote.Ref.{now}
 use Rattle.base.specs.Arrays.{over}
-use Rattle.base.proofs.Lent.{copied}
 use Rattle.sender_spec.specs.Limits.{roomSize}
 use Rattle.slots.specs.Slots.{slotOf, slotText}
 use Rattle.writer.proofs.Slots.{kept-length}
@@ -14,26 +13,23 @@ use Rattle.writer.proofs.writing.put_text.Statement.{statement}
 use Rattle.writer.proofs.writing.put_text.Tie as tie
 
 -- what is copied
-abbrev part : tie.After-slot → List ℕ
+abbrev part : tie.After-start → List ℕ
 part c =
-    let from = c .slot .result * roomSize in
+    let from = c .start .result in
     take (from + c .before .least .result - from) (drop from (now (c .before .before .before .before .args .texts)))
 
-text : (c : tie.After-slot) → let a = c .before .before .before .before .args in part c ≡ slotText (now (a .texts)) (slotOf (a .room) (a .back)) (a .len)
+text : (c : tie.After-start) → let a = c .before .before .before .before .args in part c ≡ slotText (now (a .texts)) (slotOf (a .room) (a .back)) (a .len)
 text c =
     let a = c .before .before .before .before .args in
-    let from = c .slot .result * roomSize in
+    let from = c .start .result in
     let e : from + c .before .least .result - from ≡ min (a .len) roomSize = omega (arith, c .before .least .ensures) in
-    (λ i. take (e i) (drop (c .slot .ensures .0 i * roomSize) (now (a .texts))))
+    (λ i. take (e i) (drop (c .start .ensures .0 i) (now (a .texts))))
 
 least-requires : tie.Need-least-requires
 least-requires c κs = search needs
 
-slot-requires : tie.Need-slot-requires
-slot-requires c κs = search needs
-
-mul-from : tie.Need-mul-from
-mul-from c = search needs
+start-requires : tie.Need-start-requires
+start-requires c κs = search needs
 
 add-end : tie.Need-add-end
 add-end c = search needs
@@ -60,7 +56,7 @@ returns c =
     let a = st .args in
     let q = c .before .before .copy in (
       l .before .least .ensures ∙ sym (kept-length (now (a .texts)) (st .pre .0) (a .room) (a .back) (a .len)),
-      copied (part l) (now (a .to)) (q .last .1 .0) (q .ensures .1) ∙ ap (λ (x : List ℕ). over x (now (a .to))) (text l),
+      q .ensures ∙ ap (λ (x : List ℕ). over x (now (a .to))) (text l),
     )
 
 pub put-text-spec : {M : Type 1} → statement M
@@ -68,8 +64,7 @@ put-text-spec =
     tie.close
     (tie.spec
     least-requires
-    slot-requires
-    mul-from
+    start-requires
     add-end
     sub-copy
     part-copy-start
