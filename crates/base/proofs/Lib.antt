@@ -12,3 +12,4 @@ pub mod Lent
 pub mod Pasted
 pub mod Written
 pub mod Records
+pub mod Replaced

@@ -22,7 +22,7 @@ use Rattle.sender_spec.proofs.AllowedTurns.{allowed-within}
 use Rattle.rate.proofs.Spent.{spent-times}
 use Rattle.settings.specs.State.{settingsOf}
 use Rattle.sender.specs.State.{stateOf}
-use Rattle.sender.specs.Clocking.{recordAfter}
+use Rattle.sender.specs.Clocking.{recordAfter, paceBehind}
 use Rattle.sender.proofs.Taken.{taken-lies}
 use Rattle.sender.proofs.Ring.{kept-behind}
 
@@ -50,7 +50,7 @@ module _ (s : Sender) (texts log : List ℕ) (t : ℕ) (size : length texts ≡ 
       spent-times (slotsOf rate) log (s .pace .next) (s .pace .used) t k few some (omega (arith, limit, passed .rated .1))
       ∙ ap (λ (m : ℕ). take m (replicate k t ++ state .times)) limit
 
-  pub after-is : stateOf (recordAfter s t n k) (restKept (s .waiting .room) (s .waiting .len) n texts) (spentIn (slotsOf rate) log (s .pace .next) t k) ≡ afterPacket state t
+  pub after-is : stateOf (recordAfter s t n k (paceBehind s k)) (restKept (s .waiting .room) (s .waiting .len) n texts) (spentIn (slotsOf rate) log (s .pace .next) t k) ≡ afterPacket state t
   after-is =
       let w = waiting-rest (s .waiting .room) (s .waiting .len) n texts size in
       let kept = kept-behind texts (s .waiting .room) (s .waiting .len) n t (s .kept .count) (s .kept .lens) (s .kept .ats) size

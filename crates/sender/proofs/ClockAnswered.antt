@@ -33,7 +33,7 @@ use Rattle.slots.proofs.Slots.{waiting-length}
 use Rattle.settings.specs.State.{settingsOf}
 use Rattle.writer.specs.Draft.{draftPacket, clockAnswer, isSent, putOf}
 use Rattle.sender.specs.State.{stateOf}
-use Rattle.sender.specs.Clocking.{judgementAt, refusedBy, markerDue, takenBytes, draftOf, recordAt, recordBehind, textsBehind, logBehind, Clocks}
+use Rattle.sender.specs.Clocking.{judgementAt, refusedBy, markerDue, takenBytes, draftOf, recordAt, recordBehind, paceBehind, textsBehind, logBehind, Clocks}
 use Rattle.sender.proofs.Taken.{taken-lies}
 use Rattle.sender.proofs.AfterClockCall.{after-is}
 use Rattle.sender.proofs.Drafted.{packet-is}
@@ -59,7 +59,7 @@ module _ (s : State.Sender) (t : ℕ) (p : List ℕ) where
       go : (a b c d : Bool)
           → cond a (clockRefused s p (settingsNumber (s .settings)))
           (cond b (clockRefused s p 5) (cond ((not c || d) && hasSome) (checked (clockRefused s p) (spaceChecks s t p) (clockSent s t p)) (clockQuiet s t p)))
-          ≡ resultBy (cond a (refuses (settingsNumber (s .settings))) (cond b (refuses 5) (cond c (cond d Judging.later Judging.early) Judging.first)))
+          ≡ resultBy (cond a (refuses (settingsNumber (s .settings))) (cond b (refuses 5) (cond (not c || d) (cond c Judging.later Judging.first) Judging.early)))
       go true b c d = refl
       go false true c d = refl
       go false false true true = refl
@@ -156,11 +156,11 @@ module _ (s : Sender) (texts log : List ℕ) (t : ℕ) (p : List ℕ) where
 
     -- what a draft of what 01 takes comes to; where it is sent, so many times are lent
     answered-is : (r : Answer) (p' : List ℕ) → (Holds (isSent r) → length log ≡ logSize) → record { answer = clockAnswer r; lent = p' } ≡ putOf (draftOf s t (markerDue s n) n) texts p
-        → Clocks s texts log t p r (recordBehind r s t n k) (textsBehind r s texts n) (logBehind r s log t k) p'
+        → Clocks s texts log t p r (recordBehind r s t n k (paceBehind s k)) (textsBehind r s texts n) (logBehind r s log t k) p'
     answered-is r p' long e = record { result = behind r long ∙ ap turned e ∙ turned-is; fields = refl; bytes = refl; times = refl }
       where
         behind : (r : Answer) → (Holds (isSent r) → length log ≡ logSize)
-            → record { answer = clockAnswer r; sender = stateOf (recordBehind r s t n k) (textsBehind r s texts n) (logBehind r s log t k); lent = p' } ≡ turned (record { answer = clockAnswer r; lent = p' })
+            → record { answer = clockAnswer r; sender = stateOf (recordBehind r s t n k (paceBehind s k)) (textsBehind r s texts n) (logBehind r s log t k); lent = p' } ≡ turned (record { answer = clockAnswer r; lent = p' })
         behind (Refused q) long = refl
         behind Quiet long = refl
         behind (Sent l) long = ap (λ (x : State.Sender). record { answer = sent l; sender = x; lent = p' }) (after-is s texts log t size (long tt) passed)
@@ -180,10 +180,10 @@ module _ (s : Sender) (texts log : List ℕ) (t : ℕ) (p : List ℕ) where
           go false = refl
 
       pub put-is : (r : Answer) (texts' log' p' : List ℕ) → (Holds (isSent r) → length log ≡ logSize) → record { answer = clockAnswer r; lent = p' } ≡ putOf (draftOf s t marked m) texts p
-          → texts' ≡ textsBehind r s texts m → log' ≡ logBehind r s log t g → Clocks s texts log t p r (recordBehind r s t m g) texts' log' p'
+          → texts' ≡ textsBehind r s texts m → log' ≡ logBehind r s log t g → Clocks s texts log t p r (recordBehind r s t m g (paceBehind s g)) texts' log' p'
       put-is r texts' log' p' long e same there =
-          subst (λ (l : List ℕ). Clocks s texts log t p r (recordBehind r s t m g) texts' l p') (sym there)
-          (subst (λ (l : List ℕ). Clocks s texts log t p r (recordBehind r s t m g) l (logBehind r s log t g) p') (sym same)
-          (subst (λ (i : ℕ). Clocks s texts log t p r (recordBehind r s t m i) (textsBehind r s texts m) (logBehind r s log t i) p') (sym going-is)
-          (subst (λ (i : ℕ). Clocks s texts log t p r (recordBehind r s t i k) (textsBehind r s texts i) (logBehind r s log t k) p') (sym taken-is)
+          subst (λ (l : List ℕ). Clocks s texts log t p r (recordBehind r s t m g (paceBehind s g)) texts' l p') (sym there)
+          (subst (λ (l : List ℕ). Clocks s texts log t p r (recordBehind r s t m g (paceBehind s g)) l (logBehind r s log t g) p') (sym same)
+          (subst (λ (i : ℕ). Clocks s texts log t p r (recordBehind r s t m i (paceBehind s i)) (textsBehind r s texts m) (logBehind r s log t i) p') (sym going-is)
+          (subst (λ (i : ℕ). Clocks s texts log t p r (recordBehind r s t i k (paceBehind s k)) (textsBehind r s texts i) (logBehind r s log t k) p') (sym taken-is)
           (answered-is r p' long (e ∙ (λ i. putOf (draftOf s t (marks i) m) texts p) ∙ ap (λ (i : ℕ). putOf (draftOf s t (markerDue s i) i) texts p) taken-is)))))

@@ -1,45 +1,36 @@
 -- The record, the texts and the log that a call leaves, by the tests on its answer.
 use Prim.Native.Nat.{ℕ}
-use mathlib.Core.Path.{_≡_, refl, sym}
+use mathlib.Core.Path.{_≡_, refl, ap, sym}
 use mathlib.Core.List.{List}
 use mathlib.Core.Bool.{not}
 use lib.Dec.{T as Holds}
 use Rattle.slots.specs.Slots.{restKept}
-use Rattle.slots.specs.Held.{leftOf, keptWith}
-use Rattle.rate.specs.Circle.{slotsOf, spentIn, paceAfter}
-use Rattle.settings.specs.State.{progressBehind}
+use Rattle.rate.specs.declared.Pace.{Pace}
+use Rattle.rate.specs.Circle.{slotsOf, spentIn}
 use Rattle.writer.specs.Draft.{isQuiet, isSent}
 use Rattle.sender.specs.declared.Sender.{Sender}
-use Rattle.sender.specs.declared.clocking.Sending.{Sending}
 use Rattle.writer.specs.declared.Answer.{Answer}
 use Rattle.writer.specs.declared.Answer.the-variants.{Refused, Quiet, Sent}
-use Rattle.sender.specs.Clocking.{recordAt, recordSent, recordBehind, recordBy, textsBehind, logBehind}
+use Rattle.sender.specs.Clocking.{recordAt, recordAfter, recordBehind, textsBehind, logBehind}
 
-module _ (s : Sender) (t : ℕ) (g : Sending) where
-  -- where a packet is sent, the pace is the one behind its characters
-  pub by-is : (r : Answer) → (Holds (isSent r) → g .pace ≡ paceAfter (s .pace) (s .settings .rate) (g .characters)) → recordBehind r s t (g .len) (g .characters) ≡ recordBy r s t g
-  by-is (Refused x) e = refl
-  by-is Quiet e = refl
-  by-is (Sent l) e = λ i. record {
-    settings = s .settings;
-    clock = t;
-    waiting = leftOf (s .waiting) (g .len) (g .characters) t;
-    kept = keptWith (s .kept) (g .len) t;
-    pace = sym (e tt) i;
-    progress = progressBehind (s .progress) (g .len) t;
-  }
+module _ (s : Sender) (t n k : ℕ) (p : Pace) where
+  -- the pace counts where a packet is sent
+  pub pace-counts : (r : Answer) (q : Pace) → (Holds (isSent r) → p ≡ q) → recordBehind r s t n k q ≡ recordBehind r s t n k p
+  pace-counts (Refused x) q e = refl
+  pace-counts Quiet q e = refl
+  pace-counts (Sent l) q e = ap (recordAfter s t n k) (sym (e tt))
 
-  pub behind-quiet : (r : Answer) → Holds (isQuiet r) → recordBy r s t g ≡ recordAt s t
+  pub behind-quiet : (r : Answer) → Holds (isQuiet r) → recordBehind r s t n k p ≡ recordAt s t
   behind-quiet (Refused x) h = absurd h
   behind-quiet Quiet h = refl
   behind-quiet (Sent l) h = absurd h
 
-  pub behind-sent : (r : Answer) → Holds (isSent r) → recordBy r s t g ≡ recordSent s t g
+  pub behind-sent : (r : Answer) → Holds (isSent r) → recordBehind r s t n k p ≡ recordAfter s t n k p
   behind-sent (Refused x) h = absurd h
   behind-sent Quiet h = absurd h
   behind-sent (Sent l) h = refl
 
-  pub behind-refused : (r : Answer) → Holds (not (isQuiet r)) → Holds (not (isSent r)) → recordBy r s t g ≡ s
+  pub behind-refused : (r : Answer) → Holds (not (isQuiet r)) → Holds (not (isSent r)) → recordBehind r s t n k p ≡ s
   behind-refused (Refused x) h k = refl
   behind-refused Quiet h k = absurd h
   behind-refused (Sent l) h k = absurd k

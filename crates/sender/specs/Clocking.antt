@@ -1,13 +1,11 @@
 -- What the clock call answers.
-use Prim.Native.Nat.{ℕ, _+_, _-_, _%_, min}
+use Prim.Native.Nat.{ℕ, _+_, _%_, min}
 use mathlib.Core.Path.{_≡_}
 use mathlib.Core.List.{List}
-use mathlib.Core.Bool.{Bool, true, cond, not, _||_, _&&_}
-use lib.Dec.{ltb, eqb}
+use mathlib.Core.Bool.{Bool, true, cond}
+use lib.Dec.{eqb}
 use lib.ListN.{length}
-use Rattle.base.specs.Flags.{isSet}
 use Rattle.sender.specs.declared.Sender.{Sender}
-use Rattle.sender.specs.declared.clocking.Sending.{Sending}
 use Rattle.text_spec.specs.Front.{front}
 use Rattle.sender_spec.specs.Limits.{roomSize}
 use Rattle.sender_spec.specs.Packets.{going, taken}
@@ -19,8 +17,9 @@ use Rattle.writer.specs.Draft.{clockAnswer, answerBy}
 use Rattle.slots.specs.declared.Waiting.{Waiting}
 use Rattle.slots.specs.Slots.{waitingIn, restKept}
 use Rattle.slots.specs.Held.{leftOf, keptWith}
+use Rattle.rate.specs.declared.Pace.{Pace}
 use Rattle.rate.specs.Circle.{slotsOf, spentIn, paceAfter}
-use Rattle.settings.specs.State.{settingsOf, progressOf, progressBehind}
+use Rattle.settings.specs.State.{settingsOf, progressOf, markerOf, progressBehind}
 use Rattle.settings.specs.declared.Judged.{Judged}
 use Rattle.settings.specs.declared.Judged.the-variants as Judgements
 use Rattle.settings.specs.Judging.{Judgement, ready, judgementOf}
@@ -39,7 +38,7 @@ refusedBy Judgements.Later = Quiet
 
 -- M of a packet that takes so many bytes of what waits
 abbrev pub markerDue : Sender → ℕ → Bool
-markerDue s n = not (isSet (s .progress .sent)) || (ltb 0 n && ltb (s .settings .buffering) (s .waiting .since - s .progress .«last_text»))
+markerDue s n = markerOf (s .progress) (s .settings .buffering) n (s .waiting .since)
 
 -- how many bytes a packet takes of what waits, of whose c characters k may go
 abbrev pub takenBytes : List ℕ → Waiting → ℕ → ℕ → ℕ
@@ -74,37 +73,24 @@ recordAt s t = record {
   progress = s .progress;
 }
 
--- n bytes of what waited, k characters, are the newest block, in its place
-abbrev pub recordAfter : Sender → ℕ → ℕ → ℕ → Sender
-recordAfter s t n k = record {
+-- n bytes of what waited, k characters, are the newest block, in its place; p is the pace behind them
+abbrev pub recordAfter : Sender → ℕ → ℕ → ℕ → Pace → Sender
+recordAfter s t n k p = record {
   settings = s .settings;
   clock = t;
   waiting = leftOf (s .waiting) n k t;
   kept = keptWith (s .kept) n t;
-  pace = paceAfter (s .pace) (s .settings .rate) k;
+  pace = p;
   progress = progressBehind (s .progress) n t;
 }
 
-abbrev pub recordBehind : Answer → Sender → ℕ → ℕ → ℕ → Sender
-recordBehind (Refused r) s t n k = s
-recordBehind Quiet s t n k = recordAt s t
-recordBehind (Sent l) s t n k = recordAfter s t n k
+abbrev pub recordBehind : Answer → Sender → ℕ → ℕ → ℕ → Pace → Sender
+recordBehind (Refused r) s t n k p = s
+recordBehind Quiet s t n k p = recordAt s t
+recordBehind (Sent l) s t n k p = recordAfter s t n k p
 
--- the same of the code's record: the pace that `put` left
-abbrev pub recordSent : Sender → ℕ → Sending → Sender
-recordSent s t g = record {
-  settings = s .settings;
-  clock = t;
-  waiting = leftOf (s .waiting) (g .len) (g .characters) t;
-  kept = keptWith (s .kept) (g .len) t;
-  pace = g .pace;
-  progress = progressBehind (s .progress) (g .len) t;
-}
-
-abbrev pub recordBy : Answer → Sender → ℕ → Sending → Sender
-recordBy (Refused r) s t g = s
-recordBy Quiet s t g = recordAt s t
-recordBy (Sent l) s t g = recordSent s t g
+abbrev pub paceBehind : Sender → ℕ → Pace
+paceBehind s k = paceAfter (s .pace) (s .settings .rate) k
 
 -- what is left of what waits begins the next slot
 abbrev pub textsBehind : Answer → Sender → List ℕ → ℕ → List ℕ
@@ -122,7 +108,7 @@ logBehind (Sent l) s log t k = spentIn (slotsOf (s .settings .rate)) log (s .pac
 -- told besides
 pub record Clocks (s : Sender) (texts log : List ℕ) (t : ℕ) (p : List ℕ) (r : Answer) (s' : Sender) (texts' log' p' : List ℕ) : Type 0 where
   pub result : record { answer = clockAnswer r; sender = stateOf s' texts' log'; lent = p' } ≡ clockOf (stateOf s texts log) t p
-  pub fields : s' ≡ recordBehind r s t (length (taken (stateOf s texts log) t)) (going (stateOf s texts log) t)
+  pub fields : s' ≡ recordBehind r s t (length (taken (stateOf s texts log) t)) (going (stateOf s texts log) t) (paceBehind s (going (stateOf s texts log) t))
   pub bytes : texts' ≡ textsBehind r s texts (length (taken (stateOf s texts log) t))
   pub times : log' ≡ logBehind r s log t (going (stateOf s texts log) t)
 

@@ -5,7 +5,7 @@ ghost use Prim.Native.Nat.{_-_, _≤_};
 ghost use Rattle.text_spec.specs.Front.{front};
 ghost use Rattle.settings.specs.Judging.{judged};
 ghost use Rattle.writer.specs.Draft.{answerBy};
-ghost use Rattle.sender.specs.Clocking.{judgementAt, refusedBy, markerDue, takenBytes, draftOf, recordAt, recordSent, recordBy, Sends};
+ghost use Rattle.sender.specs.Clocking.{judgementAt, refusedBy, markerDue, takenBytes, draftOf, recordAt, recordAfter, recordBehind, Sends};
 use crate::Sender;
 use numbers::least;
 use rate::Pace;
@@ -109,7 +109,7 @@ pub fn put(
     clock: u64,
     packet: &mut [u8],
 ) -> Sending
-    ensures { λ r. ⌜ Sends sender (now (texts .entry)) (now (log .entry)) clock (now (packet .entry)) (r .size) (recordBy (answerBy (r .size) (length (now (packet .entry)))) sender clock r) (now (texts .exit)) (now (log .exit)) (now (packet .exit)) ⌝ }
+    ensures { λ r. ⌜ Sends sender (now (texts .entry)) (now (log .entry)) clock (now (packet .entry)) (r .size) (recordBehind (answerBy (r .size) (length (now (packet .entry)))) sender clock (r .len) (r .characters) (r .pace)) (now (texts .exit)) (now (log .exit)) (now (packet .exit)) ⌝ }
 {
     let settings = sender.settings;
     let waiting = sender.waiting;
@@ -150,7 +150,7 @@ pub fn at(sender: Sender, clock: u64) -> Sender
 
 // The sender behind the packet that it sends.
 pub fn after(sender: Sender, clock: u64, sending: Sending) -> Sender
-    ensures { λ r. ⌜ r ≡ recordSent sender clock sending ⌝ }
+    ensures { λ r. ⌜ r ≡ recordAfter sender clock (sending .len) (sending .characters) (sending .pace) ⌝ }
 {
     let settings = sender.settings;
     let waiting = sender.waiting;

@@ -1,12 +1,13 @@
 -- What a clock call comes to, by what is looked at before the texts.
-use Prim.Native.Nat.{ℕ, _-_}
+use Prim.Native.Nat.{ℕ}
 use mathlib.Core.List.{[], _∷_}
 use mathlib.Core.Bool.{Bool, true, false, cond}
-use lib.Dec.{ltb, leb}
+use lib.Dec.{ltb}
 use Rattle.base.specs.Checks.{_gives_, checked}
 use Rattle.packet.specs.Refusal.{number}
 use Rattle.sender_spec.specs.State as State
 use Rattle.sender_spec.specs.Settings.{settingsCheck}
+use Rattle.sender_spec.specs.Packets.{readyAt}
 use Rattle.settings.specs.declared.Judged.{Judged}
 use Rattle.settings.specs.declared.Judged.the-variants.{Refused, Early, First, Later}
 
@@ -50,4 +51,4 @@ ready later = true
 abbrev pub judgementOf : State.Settings → ℕ → State.Progress → ℕ → Judgement
 judgementOf s latest p t =
     checked refuses (settingsCheck s ∷ ltb t latest gives 5 ∷ [])
-    (cond (p .sent) (cond (leb (s .buffering) (t - p .last)) later early) first)
+    (cond (readyAt (s .buffering) p t) (cond (p .sent) later first) early)

@@ -1,6 +1,6 @@
 -- The code's settings and progress as those of 01.
-use Prim.Native.Nat.{ℕ}
-use mathlib.Core.Bool.{cond}
+use Prim.Native.Nat.{ℕ, _-_}
+use mathlib.Core.Bool.{Bool, cond, not, _||_, _&&_}
 use lib.Dec.{ltb}
 use Rattle.base.specs.Flags.{isSet}
 use Rattle.delivery.specs.Numbers.{next}
@@ -22,6 +22,10 @@ settingsOf s = record {
 
 abbrev pub progressOf : Progress → State.Progress
 progressOf p = record { sent = isSet (p .sent); last = p .last; lastText = p .«last_text»; next = p .next }
+
+-- M of a packet that takes n bytes of what waits, the first of them offered at `since`
+abbrev pub markerOf : Progress → ℕ → ℕ → ℕ → Bool
+markerOf p buffering n since = not (isSet (p .sent)) || (ltb 0 n && ltb buffering (since - p .«last_text»))
 
 -- behind a packet that takes so many bytes at clock t
 abbrev pub progressBehind : Progress → ℕ → ℕ → Progress

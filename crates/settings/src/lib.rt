@@ -1,12 +1,12 @@
 // What a sender is opened with, and how far it has come: the checks of the settings, and what a packet takes from both.
 ghost use mathlib.Core.Path.{_≡_};
-ghost use mathlib.Core.Bool.{cond, not, _||_, _&&_};
+ghost use mathlib.Core.Bool.{cond};
 ghost use lib.Dec.{ltb};
-ghost use Prim.Native.Nat.{_+_, _-_, _%_};
+ghost use Prim.Native.Nat.{_+_, _%_};
 ghost use Rattle.base.specs.Flags.{isSet};
 ghost use Rattle.packet.specs.Refusal.{outcomeNumber};
 ghost use Rattle.sender_spec.specs.Settings.{bufferingBad, rateBad, settingsNumber};
-ghost use Rattle.settings.specs.State.{settingsOf, progressOf, progressBehind};
+ghost use Rattle.settings.specs.State.{settingsOf, progressOf, markerOf, progressBehind};
 ghost use Rattle.settings.specs.Judging.{judged, isEarly, isFirst, isLater, judgementOf};
 use packet::Outcome;
 use packet::Packet;
@@ -156,7 +156,7 @@ pub fn judge(settings: Settings, latest: u64, progress: Progress, clock: u64) ->
 
 // M of a packet, by how many bytes it takes of what waits, and when the first of them was offered.
 pub fn marker(progress: Progress, buffering: u64, len: usize, since: u64) -> bool
-    ensures { λ r. ⌜ r ≡ (not (isSet (progress .sent)) || (ltb 0 len && ltb buffering (since - progress .«last_text»))) ⌝ }
+    ensures { λ r. ⌜ r ≡ markerOf progress buffering len since ⌝ }
 {
     if !progress.has_sent() {
         return true;

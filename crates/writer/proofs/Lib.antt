@@ -1,4 +1,3 @@
-pub mod Replaced
 pub mod Slots
 pub mod TextsSize
 pub mod KeptBlocks

@@ -10,7 +10,7 @@ use Rattle.base.proofs.Maps.{getD-map-inside}
 use Rattle.packet_spec.specs.Limits.{level}
 use Rattle.sender_spec.specs.Limits.{roomSize}
 use Rattle.writer.specs.internal.Parts.{fitted}
-use Rattle.writer.proofs.Replaced.{replaced-more, not-replaced}
+use Rattle.base.proofs.Replaced.{replaced-more, not-replaced}
 use Rattle.writer.proofs.fitting.Statement.{statement}
 use Rattle.writer.proofs.fitting.Tie as tie
 

@@ -48,7 +48,7 @@ use Rattle.sender.specs.declared.Sender.{Sender}
 use Rattle.sender.specs.declared.clocking.Sending.{Sending}
 use Rattle.writer.specs.declared.Answer.{Answer}
 use Rattle.writer.specs.Draft.{answerBy, isQuiet, isSent}
-use Rattle.sender.specs.Clocking.{recordAt, recordSent, recordBy, Sends}
+use Rattle.sender.specs.Clocking.{recordAt, recordAfter, recordBehind, Sends}
 use Rattle.sender.proofs.RecordLeft.{behind-quiet, behind-sent, behind-refused}
 use Rattle.sender.proofs.Sender as S
 use Rattle.sender.proofs.clocking.Sending as G
@@ -136,9 +136,9 @@ module _ {M : Type 1} (𝓤 : URA M) (H : Heap 𝓤) (A : Atoms 𝓤) (W : Given
   Does n s' xs ys zs = Sends h (x .now) (y .now) t (p .now) n s' xs ys zs
 
   -- the record behind the answer is the one stored
-  goes-on : (g : Sending) (r : Answer) → r ≡ answerBy (g .size) space → (s' : Sender) → recordBy r h t g ≡ s' → (xs ys zs : List ℕ)
-      → Does (g .size) (recordBy (answerBy (g .size) space) h t g) xs ys zs → Does (g .size) s' xs ys zs
-  goes-on g r er s' es xs ys zs e = subst (λ (k : Sender). Does (g .size) k xs ys zs) (ap (λ (a : Answer). recordBy a h t g) (sym er) ∙ es) e
+  goes-on : (g : Sending) (r : Answer) → r ≡ answerBy (g .size) space → (s' : Sender) → recordBehind r h t (g .len) (g .characters) (g .pace) ≡ s' → (xs ys zs : List ℕ)
+      → Does (g .size) (recordBehind (answerBy (g .size) space) h t (g .len) (g .characters) (g .pace)) xs ys zs → Does (g .size) s' xs ys zs
+  goes-on g r er s' es xs ys zs e = subst (λ (k : Sender). Does (g .size) k xs ys zs) (ap (λ (a : Answer). recordBehind a h t (g .len) (g .characters) (g .pace)) (sym er) ∙ es) e
 
   exits : t < 2 ^ 64 → (s' : Sender) (xs ys zs : List ℕ) (n : ℕ) → Does n s' xs ys zs → length zs ≡ space → Known sizes n
       → ent 𝓤 (⋆ 𝓤 H A (‵ (fobs γ (S.the-row .coded .code s')) ∷ ‵ (fbor κ (Body (mem S.the-row) b o γ)) ∷ ‵ (flft κ q) ∷ ‵ (finally u8 (p .name) zs) ∷ ‵ (fres (y .name) (Times .coded .code ys)) ∷ ‵ (fres (x .name) (Lent .coded .code xs)) ∷ (‵ (flft κ₁ q₁) ⊛ ‵ (flft κ₂ q₂) ⊛ ‵ (flft κ₃ q₃) ⊛ ‵ ftrue) ∷ [])) (Post (sizes .val n))
@@ -166,7 +166,7 @@ module _ {M : Type 1} (𝓤 : URA M) (H : Heap 𝓤) (A : Atoms 𝓤) (W : Given
         assigns ! (agg ! (and-then ! (copied ! 20 refl) (and-then ! (load ! (from ! (fld ! refl (stop !))) (look-in ! 34 (sub ! 1 refl (whole !)))) (no-more !)))) (from ! (stop !)) (init ! 18 refl (tt, (tt, (record { fits = room .0 }, tt)))) $
         move ! (48 ∷ 47 ∷ 46 ∷ []) $ fjoin3 ! $ move ! (0 ∷ 47 ∷ []) $ use2 W (raw (Putting 𝓤 H A mem′ run .pre to-put)) (goes-put fits was) $
         calls-at ! fm (Putting 𝓤 H A mem′ run) known-put to-put (and-then ! (copied ! 27 refl) (and-then ! (copied ! 25 refl) (and-then ! (copied ! 23 refl) (and-then ! (copied ! 37 refl) (and-then ! (copied ! 19 refl) (no-more !)))))) (λ w₀.
-        returned sendings ! (‵ (flft κ₁ q₁) ⊛ ‵ (flft κ₂ q₂) ⊛ ‵ (flft κ₃ q₃) ⊛ ‵ ftrue) (lasts putting.ended (κ₁, (κ₂, (κ₃, tt))) (h, (x, (y, (t, (p, tt)))))) (λ g zs. Does (g .size) (recordBy (answerBy (g .size) space) h t g) (zs .1 .0) (zs .1 .1 .0) (zs .1 .1 .1 .1 .0)) (id⊢ 𝓤 _) (λ g zs e isg.
+        returned sendings ! (‵ (flft κ₁ q₁) ⊛ ‵ (flft κ₂ q₂) ⊛ ‵ (flft κ₃ q₃) ⊛ ‵ ftrue) (lasts putting.ended (κ₁, (κ₂, (κ₃, tt))) (h, (x, (y, (t, (p, tt)))))) (λ g zs. Does (g .size) (recordBehind (answerBy (g .size) space) h t (g .len) (g .characters) (g .pace)) (zs .1 .0) (zs .1 .1 .0) (zs .1 .1 .1 .1 .0)) (id⊢ 𝓤 _) (λ g zs e isg.
         fsplit ! $ drop ! $ fsplit ! $ move ! (1 ∷ []) $ fsplit ! $ move ! (1 ∷ []) $ fsplit ! $ drop ! $ fsplit ! $ fsplit ! $ move ! (1 ∷ []) $ feqL ! (λ same. move ! (1 ∷ []) $ drop ! $
         -- [the packet's last bytes; the log's last times; the texts' last bytes; the tokens; the sender's cell; the open borrow; obs; auth; _20; …; _0]
         land ! (from ! (stop !)) (init ! 36 refl (sendings .typed 𝓤 H A W g isg)) $
@@ -191,7 +191,7 @@ module _ {M : Type 1} (𝓤 : URA M) (H : Heap 𝓤) (A : Atoms 𝓤) (W : Given
         move ! (4 ∷ 5 ∷ 6 ∷ 7 ∷ []) $ closes-whole senders ! tt s' b o iss $
         assigns ! (of-opd ! (copied ! 33 refl)) (from ! (stop !)) (init ! 47 refl (sizes .typed 𝓤 H A W (g .size) (known-size g isg))) $
         returns-within ! Post refl (look ! 47 refl) $ freed ! 47 refl refl $ freed ! 45 refl refl $ freed ! 43 refl refl $ freed ! 41 refl refl $ freed ! 39 refl refl $ freed ! 37 refl refl $ freed ! 35 refl refl $ freed ! 33 refl refl $ freed ! 31 refl refl $ freed ! 29 refl refl $ freed ! 27 refl refl $ freed ! 25 refl refl $ freed ! 23 refl refl $ freed ! 21 refl refl $ freed ! 19 refl refl $ freed ! 17 refl refl $ freed ! 15 refl refl $ freed ! 13 refl refl $ unused ! 11 refl refl $ unused ! 9 refl refl $ unused ! 7 refl refl $ free0 ! $
-        keep ! (0 ∷ 1 ∷ 2 ∷ 3 ∷ 4 ∷ 5 ∷ 6 ∷ []) $ by ! (exits fits s' (zs .1 .0) (zs .1 .1 .0) (zs .1 .1 .1 .1 .0) (g .size) (goes-on g r er s' (behind-quiet h t g r (subst Holds ed held) ∙ sym es) (zs .1 .0) (zs .1 .1 .0) (zs .1 .1 .1 .1 .0) e) same (known-size g isg)))))
+        keep ! (0 ∷ 1 ∷ 2 ∷ 3 ∷ 4 ∷ 5 ∷ 6 ∷ []) $ by ! (exits fits s' (zs .1 .0) (zs .1 .1 .0) (zs .1 .1 .1 .1 .0) (g .size) (goes-on g r er s' (behind-quiet h t (g .len) (g .characters) (g .pace) r (subst Holds ed held) ∙ sym es) (zs .1 .0) (zs .1 .1 .0) (zs .1 .1 .1 .1 .0) e) same (known-size g isg)))))
         (λ failed.
         use0 W (raw (IsSent 𝓤 H A mem′ run .pre (with-one answers r))) (goes-sent 𝓤 H A mem′ run W r is) $
         calls-at ! fm (IsSent 𝓤 H A mem′ run) known-is-sent (with-one answers r) (and-then ! (copied ! 33 refl) (no-more !)) (λ w₄.
@@ -202,19 +202,19 @@ module _ {M : Type 1} (𝓤 : URA M) (H : Heap 𝓤) (A : Atoms 𝓤) (W : Given
         assigns ! (of-opd ! (load ! (from ! (hop ! (look ! 46 refl) (stop !))) (look-raw ! 4 refl))) (from ! (stop !)) (init ! 8 refl (senders .typed 𝓤 H A W h was)) $
         use0 W (raw (After 𝓤 H A mem′ run .pre (with-three senders sizes sendings h t g))) (goes-after 𝓤 H A mem′ run W h was t (refl, fits) g isg) $
         calls-at ! fm (After 𝓤 H A mem′ run) known-after (with-three senders sizes sendings h t g) (and-then ! (copied ! 9 refl) (and-then ! (copied ! 41 refl) (and-then ! (copied ! 37 refl) (no-more !)))) (λ w₅.
-        returned senders ! (‵ ftrue) (lasts after.ended tt (h, (t, (g, tt)))) (λ s' _. s' ≡ recordSent h t g) (id⊢ 𝓤 _) (λ s' _ es iss. drop ! $ drop ! $
+        returned senders ! (‵ ftrue) (lasts after.ended tt (h, (t, (g, tt)))) (λ s' _. s' ≡ recordAfter h t (g .len) (g .characters) (g .pace)) (id⊢ 𝓤 _) (λ s' _ es iss. drop ! $ drop ! $
         land ! (from ! (stop !)) (init ! 10 refl (senders .typed 𝓤 H A W s' iss)) $
         assigns ! (of-opd ! (copied ! 10 refl)) (from ! (hop ! (look ! 46 refl) (stop !))) (store-raw ! 4 refl (senders .typed 𝓤 H A W s' iss)) $
         move ! (4 ∷ 5 ∷ 6 ∷ 7 ∷ []) $ closes-whole senders ! tt s' b o iss $
         assigns ! (of-opd ! (copied ! 33 refl)) (from ! (stop !)) (init ! 47 refl (sizes .typed 𝓤 H A W (g .size) (known-size g isg))) $
         returns-within ! Post refl (look ! 47 refl) $ freed ! 47 refl refl $ freed ! 45 refl refl $ freed ! 43 refl refl $ freed ! 41 refl refl $ freed ! 39 refl refl $ freed ! 37 refl refl $ freed ! 35 refl refl $ freed ! 33 refl refl $ freed ! 31 refl refl $ freed ! 29 refl refl $ freed ! 27 refl refl $ freed ! 25 refl refl $ freed ! 23 refl refl $ freed ! 21 refl refl $ freed ! 19 refl refl $ freed ! 17 refl refl $ unused ! 15 refl refl $ unused ! 13 refl refl $ freed ! 11 refl refl $ freed ! 9 refl refl $ freed ! 7 refl refl $ free0 ! $
-        keep ! (0 ∷ 1 ∷ 2 ∷ 3 ∷ 4 ∷ 5 ∷ 6 ∷ []) $ by ! (exits fits s' (zs .1 .0) (zs .1 .1 .0) (zs .1 .1 .1 .1 .0) (g .size) (goes-on g r er s' (behind-sent h t g r (subst Holds ez held) ∙ sym es) (zs .1 .0) (zs .1 .1 .0) (zs .1 .1 .1 .1 .0) e) same (known-size g isg)))))
+        keep ! (0 ∷ 1 ∷ 2 ∷ 3 ∷ 4 ∷ 5 ∷ 6 ∷ []) $ by ! (exits fits s' (zs .1 .0) (zs .1 .1 .0) (zs .1 .1 .1 .1 .0) (g .size) (goes-on g r er s' (behind-sent h t (g .len) (g .characters) (g .pace) r (subst Holds ez held) ∙ sym es) (zs .1 .0) (zs .1 .1 .0) (zs .1 .1 .1 .1 .0) e) same (known-size g isg)))))
         (λ neither.
         -- refused
         move ! (4 ∷ 5 ∷ 6 ∷ 7 ∷ []) $ closes-whole senders ! tt h b o was $
         assigns ! (of-opd ! (copied ! 33 refl)) (from ! (stop !)) (init ! 47 refl (sizes .typed 𝓤 H A W (g .size) (known-size g isg))) $
         returns ! (look ! 47 refl) $ freed ! 47 refl refl $ freed ! 45 refl refl $ freed ! 43 refl refl $ freed ! 41 refl refl $ freed ! 39 refl refl $ freed ! 37 refl refl $ freed ! 35 refl refl $ freed ! 33 refl refl $ freed ! 31 refl refl $ freed ! 29 refl refl $ freed ! 27 refl refl $ freed ! 25 refl refl $ freed ! 23 refl refl $ freed ! 21 refl refl $ freed ! 19 refl refl $ freed ! 17 refl refl $ unused ! 15 refl refl $ unused ! 13 refl refl $ freed ! 11 refl refl $ unused ! 9 refl refl $ unused ! 7 refl refl $ free0 ! $
-        keep ! (0 ∷ 1 ∷ 2 ∷ 3 ∷ 4 ∷ 5 ∷ 6 ∷ []) $ by ! (exits fits h (zs .1 .0) (zs .1 .1 .0) (zs .1 .1 .1 .1 .0) (g .size) (goes-on g r er h (behind-refused h t g r (subst (λ (i : Bool). Holds (not i)) ed failed) (subst (λ (i : Bool). Holds (not i)) ez neither)) (zs .1 .0) (zs .1 .1 .0) (zs .1 .1 .1 .1 .0) e) same (known-size g isg)))))))))))))))))))))))))))))))))))
+        keep ! (0 ∷ 1 ∷ 2 ∷ 3 ∷ 4 ∷ 5 ∷ 6 ∷ []) $ by ! (exits fits h (zs .1 .0) (zs .1 .1 .0) (zs .1 .1 .1 .1 .0) (g .size) (goes-on g r er h (behind-refused h t (g .len) (g .characters) (g .pace) r (subst (λ (i : Bool). Holds (not i)) ed failed) (subst (λ (i : Bool). Holds (not i)) ez neither)) (zs .1 .0) (zs .1 .1 .0) (zs .1 .1 .1 .1 .0) e) same (known-size g isg)))))))))))))))))))))))))))))))))))
 
 meets : {M : Type 1} (𝓤 : URA M) (H : Heap 𝓤) (A : Atoms 𝓤) (W : Given 𝓤 H A) (mem′ : Memory → SProp 𝓤) (run : Routine → Fun 𝓤) (𝓣 : Tables 𝓤 H) → Triple 𝓤 (𝓣 .C #sender·clocking·put) (Putting 𝓤 H A mem′ run) → Triple 𝓤 (𝓣 .C #writer·Answer·by-size) (BySize 𝓤 H A mem′ run) → Triple 𝓤 (𝓣 .C #writer·Answer·is-quiet) (IsQuiet 𝓤 H A mem′ run) → Triple 𝓤 (𝓣 .C #writer·Answer·is-sent) (IsSent 𝓤 H A mem′ run) → Triple 𝓤 (𝓣 .C #sender·clocking·at) (At 𝓤 H A mem′ run) → Triple 𝓤 (𝓣 .C #sender·clocking·after) (After 𝓤 H A mem′ run)
     → Meets 𝓤 H A this.signature (WpFn 𝓤 H (𝓣 .C) (𝓣 .Λ) code.function) (this.spec 𝓤 H A mem′ run)

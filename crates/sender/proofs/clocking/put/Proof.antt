@@ -8,15 +8,14 @@ use borrow.Author.Tests.{not-false}
 use borrow.Author.Needs.{needs}
 use denote.Ref.{now}
 use Rattle.rate.specs.declared.Pace.{Pace}
-use Rattle.rate.specs.Circle.{logSize, paceAfter}
+use Rattle.rate.specs.Circle.{logSize}
 use Rattle.settings.specs.Judging.{ready}
 use Rattle.sender.specs.declared.Sender.{Sender}
-use Rattle.sender.specs.declared.clocking.Sending.{Sending}
 use Rattle.writer.specs.declared.Draft.{Draft}
 use Rattle.writer.specs.declared.Answer.{Answer}
 use Rattle.writer.specs.Draft.{answerBy, isSent, putOf}
-use Rattle.sender.specs.Clocking.{judgementAt, recordBy, textsBehind, logBehind, Clocks}
-use Rattle.sender.proofs.RecordLeft.{by-is, texts-stay, texts-left, log-stays, log-left}
+use Rattle.sender.specs.Clocking.{judgementAt, recordBehind, paceBehind, textsBehind, logBehind, Clocks}
+use Rattle.sender.proofs.RecordLeft.{pace-counts, texts-stay, texts-left, log-stays, log-left}
 use Rattle.sender.proofs.ClockAnswered.{put-is}
 use Rattle.sender.proofs.clocking.put.Statement.{statement}
 use Rattle.sender.proofs.clocking.put.Tie as tie
@@ -62,23 +61,20 @@ goingAt c = c .before .before .before .before .before .before .before .allowed .
 abbrev answerAt : tie.After-put-packet → Answer
 answerAt c = answerBy (c .put-packet .result) (length (now (start c .args .packet)))
 
-abbrev sendingAt : tie.After-put-packet → Pace → Sending
-sendingAt c pace = record { size = c .put-packet .result; len = bytesAt c; characters = goingAt c; pace = pace }
-
 -- what it comes to, with the pace, the texts and the log that are left
 answers : (c : tie.After-put-packet) →
     let a = start c .args in
     ready (judgementAt (a .sender) (a .clock)) ≡ true → (pace : Pace) (texts log : List ℕ)
-    → (Holds (isSent (answerAt c)) → pace ≡ paceAfter (a .sender .pace) (a .sender .settings .rate) (goingAt c))
+    → (Holds (isSent (answerAt c)) → pace ≡ paceBehind (a .sender) (goingAt c))
     → (Holds (isSent (answerAt c)) → length (now (a .log)) ≡ logSize)
     → texts ≡ textsBehind (answerAt c) (a .sender) (now (a .texts)) (bytesAt c) → log ≡ logBehind (answerAt c) (a .sender) (now (a .log)) (a .clock) (goingAt c)
-    → Clocks (a .sender) (now (a .texts)) (now (a .log)) (a .clock) (now (a .packet)) (answerAt c) (recordBy (answerAt c) (a .sender) (a .clock) (sendingAt c pace)) texts log (c .put-packet .last .0)
+    → Clocks (a .sender) (now (a .texts)) (now (a .log)) (a .clock) (now (a .packet)) (answerAt c) (recordBehind (answerAt c) (a .sender) (a .clock) (bytesAt c) (goingAt c) pace) texts log (c .put-packet .last .0)
 answers c known pace texts log paced long same there =
     let a = start c .args in
     let put = c .put-packet in
     let marker = c .before .before .before .before .marker in
     let least = c .before .before .before .before .before .before .before .before .before .least in
-    subst (λ (s : Sender). Clocks (a .sender) (now (a .texts)) (now (a .log)) (a .clock) (now (a .packet)) (answerAt c) s texts log (put .last .0)) (by-is (a .sender) (a .clock) (sendingAt c pace) (answerAt c) paced)
+    subst (λ (s : Sender). Clocks (a .sender) (now (a .texts)) (now (a .log)) (a .clock) (now (a .packet)) (answerAt c) s texts log (put .last .0)) (pace-counts (a .sender) (a .clock) (bytesAt c) (goingAt c) pace (answerAt c) (paceBehind (a .sender) (goingAt c)) paced)
     (put-is (a .sender) (now (a .texts)) (now (a .log)) (a .clock) (now (a .packet)) (put .ensures .1) known (least .result) (goingAt c) (bytesAt c) (marker .result)
     (least .ensures) (c .before .before .before .before .before .before .before .allowed .ensures) (c .before .before .before .before .before .taken .ensures) (marker .ensures)
     (answerAt c) texts log (put .last .0) long (put .ensures .0 ∙ ap (λ (d : Draft). putOf d (now (a .texts)) (now (a .packet))) (c .before .before .before .draft .ensures)) same there)

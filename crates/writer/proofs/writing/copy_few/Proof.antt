@@ -6,7 +6,7 @@ use native.Mathlib.Numerals.{add-one}
 use lib.ListN.{length, take, drop, getD, set, length-set}
 use denote.Ref.{now}
 use Rattle.base.proofs.Lent.{copied}
-use Rattle.writer.proofs.Replaced.{replaced-more}
+use Rattle.base.proofs.Replaced.{replaced-more}
 use borrow.Author.Needs.{needs}
 use Rattle.writer.proofs.writing.copy_few.Statement.{statement}
 use Rattle.writer.proofs.writing.copy_few.Tie as tie
