@@ -98,6 +98,9 @@ static void refusals(void)
     EXPECT(changed(28, 0xE2, all) == STEWPIGEON_REFUSED_BLOCK_COUNT);
     EXPECT(changed(28, 99, all) == STEWPIGEON_REFUSED_BLOCK_TYPE);
     EXPECT(changed(27, 99, all) == STEWPIGEON_REFUSED_BLOCK_LENGTHS);
+    EXPECT(changed(26, 0x00, all) == STEWPIGEON_REFUSED_BLOCK_AGES); /* 0 */
+    EXPECT(changed(21, 0x0D, all) == STEWPIGEON_REFUSED_BLOCK_AGES); /* 832 behind 800 */
+    EXPECT(changed(26, 0x00, 34) == STEWPIGEON_REFUSED_BLOCK_LENGTHS);
     EXPECT(changed(38, 0xFF, all) == STEWPIGEON_REFUSED_BLOCK_TEXT);
 }
 

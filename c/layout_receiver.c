@@ -6,7 +6,7 @@ enum { T140 = 98, RED = 100 };
 /* RED with one older block, `number` being the sequence number's last byte. */
 #define PACKET(number)                                                                                         \
     {                                                                                                          \
-        0x80, 0x64, 0x12, number, 0, 0, 0, 0, 0x11, 0x22, 0x33, 0x44, 0xE2, 0x04, 0xB0, 0x02, 0x62, 'a', 'b', 'c' \
+        0x80, 0x64, 0x12, number, 0, 0, 0, 0, 0x11, 0x22, 0x33, 0x44, 0xE2, 0x04, 0x00, 0x02, 0x62, 'a', 'b', 'c' \
     }
 
 enum { LENGTH = 20 };
@@ -116,6 +116,7 @@ static void refusals(void)
         EXPECT(refused(&line, first, 16) == STEWPIGEON_REFUSED_BLOCK_HEADERS);
         EXPECT(changed(&line, 12, 0xE3) == STEWPIGEON_REFUSED_BLOCK_TYPE);
         EXPECT(changed(&line, 15, 4) == STEWPIGEON_REFUSED_BLOCK_LENGTHS);
+        EXPECT(changed(&line, 13, 0) == STEWPIGEON_REFUSED_BLOCK_AGES);
         EXPECT(changed(&line, 19, 0xFF) == STEWPIGEON_REFUSED_BLOCK_TEXT);
         accepted(&line, first, &step);
         EXPECT(changed(&line, 8, 0x12) == STEWPIGEON_REFUSED_SOURCE);

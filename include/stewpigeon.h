@@ -18,7 +18,7 @@
 
 /* The version: all else that names it is made from this, or held to it. */
 #define STEWPIGEON_VERSION_MAJOR 0
-#define STEWPIGEON_VERSION_MINOR 2
+#define STEWPIGEON_VERSION_MINOR 3
 #define STEWPIGEON_VERSION_PATCH 0
 
 #ifdef __cplusplus
@@ -48,7 +48,8 @@ enum stewpigeon_refusal {
     STEWPIGEON_REFUSED_BLOCK_COUNT = 18,   /* a fifth older block */
     STEWPIGEON_REFUSED_BLOCK_TYPE = 19,    /* a block's type is not T140 */
     STEWPIGEON_REFUSED_BLOCK_LENGTHS = 20, /* the older blocks' lengths pass the end */
-    STEWPIGEON_REFUSED_BLOCK_TEXT = 21     /* a block is not UTF-8 */
+    STEWPIGEON_REFUSED_BLOCK_TEXT = 21,    /* a block is not UTF-8 */
+    STEWPIGEON_REFUSED_BLOCK_AGES = 22     /* the older blocks' time offsets do not fall to 1 or more */
 };
 
 #define STEWPIGEON_LEVELS 4         /* the highest number of repeats */
@@ -219,7 +220,7 @@ static inline int64_t stewpigeon_sender_clock(struct stewpigeon_sender *sender, 
 
 /* An older block of a packet. */
 struct stewpigeon_block {
-    uint16_t offset; /* its time offset, in ms */
+    uint16_t offset; /* its time offset, in ms: 1 or more, and above that of the block behind it */
     size_t at;       /* where it starts in the packet */
     size_t len;      /* and its length */
 };

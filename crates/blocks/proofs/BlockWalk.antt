@@ -2,7 +2,7 @@
 use Prim.Native.Nat.{ℕ, suc, _+_, _<_, _≤_}
 use mathlib.Core.Path.{_≡_, _∙_, refl, ap, sym}
 use mathlib.Core.List.{List, [], _∷_, _++_}
-use mathlib.Core.Bool.{Bool, true, false, cond, _&&_}
+use mathlib.Core.Bool.{Bool, true, cond, _&&_}
 use native.Mathlib.Numerals.{add-one}
 use native.Mathlib.Omega.{arith}
 use lib.Dec.{ltb}
@@ -36,10 +36,6 @@ places-length at (h ∷ hs) = ap suc (places-length (at + h .len) hs)
 text-first : (h : Head) (hs : List Head) (s : List ℕ) → areText (h ∷ hs) s ≡ (isText (take (h .len) s) && areText hs (drop (h .len) s))
 text-first h hs s =
     ap (λ (q : List ℕ). isText (take (h .len) s) && allText (blocksOf (olderOf hs (drop (h .len) s)) q)) (sym (drop-drop (total hs) (h .len) s))
-
-and-true : (b : Bool) → (b && true) ≡ b
-and-true true = refl
-and-true false = refl
 
 -- what is left to check behind block k, which ends at a place
 abbrev pub behind : List ℕ → List Head → ℕ → ℕ → ℕ → ℕ → Bool

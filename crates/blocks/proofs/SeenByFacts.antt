@@ -8,7 +8,7 @@ use lib.ListN.{length}
 use lib.Seq.{slice, length-slice}
 use Rattle.base.specs.Arrays.{filled}
 use Rattle.packet_spec.specs.Limits.{level}
-use Rattle.packet_spec.specs.Redundancy.{Head, Heads, heads, headers, total, areText}
+use Rattle.packet_spec.specs.Redundancy.{Head, Heads, heads, headers, total, agesFall, areText}
 use Rattle.packet.specs.Places.{none}
 use Rattle.block_headers.specs.internal.Seen.{headsWithin}
 use Rattle.blocks.specs.internal.Placing.{headPlaces}
@@ -25,13 +25,13 @@ module _ (plain : Bool) (t140 : ℕ) (p : List ℕ) (from end : ℕ) where
       → blocksSeenAt plain t140 p from end ≡ seenBehind end (cond plain (heads [] (slice from end p)) (headers t140 level [] (slice from end p)))
   inside h k = behind (cond plain (heads [] (slice from end p)) (headers t140 level [] (slice from end p))) (Within.inside plain t140 p from end h k)
 
--- blocks that fit and are text, from the place where the first lies
+-- blocks that fit, of ages that fall, and that are text, from the place where the first lies
 module _ (p : List ℕ) (first end : ℕ) (hs : List Head) (ahead : first ≤ end) (within : end ≤ length p) where
-  pub text-placed : first + total hs ≤ end → areText hs (slice first end p) ≡ true
+  pub text-placed : first + total hs ≤ end → agesFall hs ≡ true → areText hs (slice first end p) ≡ true
       → record { number = 0; count = length hs; older = filled none level (headPlaces first hs); primary = first + total hs } ≡ seenBehind end (heads hs (slice first end p))
-  text-placed fit text =
+  text-placed fit ages text =
       let s = slice first end p in
       let l : length s ≡ end - first = length-slice first end p within in
       let f : first ≡ end - length s = omega arith in
       ap (λ (k : ℕ). record { number = 0; count = length hs; older = filled none level (headPlaces k hs); primary = k + total hs }) f
-      ∙ sym (past-21 refusedBlocks hs s (placedBlocks end hs s) (omega arith) text)
+      ∙ sym (past-21 refusedBlocks hs s (placedBlocks end hs s) (omega arith) ages text)

@@ -1,4 +1,5 @@
-// The blocks of a payload (RFC 2198, section 3): where they lie, and whether they are text.
+// The blocks of a payload (RFC 2198, section 3): where they lie, and whether their ages fall and they are text.
+mod ages;
 mod placing;
 
 ghost use mathlib.Core.Path.{_≡_};
@@ -8,7 +9,7 @@ ghost use lib.Seq.{slice};
 ghost use Rattle.packet_spec.specs.Limits.{level};
 ghost use Rattle.packet_spec.specs.Redundancy as Heads;
 ghost use Rattle.packet.specs.Refusal.{number};
-ghost use Rattle.block_headers.specs.internal.Seen.{seenHeads};
+ghost use Rattle.block_headers.specs.internal.Seen.{seenHeads, ZerosBehind};
 ghost use Rattle.blocks.specs.internal.Seen.{blocksSeen, refusedBlocks, seenBehind, blocksSeenAt};
 use block_headers::Head;
 use packet::Older;
@@ -40,7 +41,7 @@ fn refused(refusal: Refusal) -> Blocks
     }
 }
 
-// Behind the headers: blocks must fit and be text.
+// Behind the headers: blocks must fit, be of ages that fall, and be text.
 fn read_blocks(
     packet: &[u8],
     first: usize,
@@ -48,13 +49,17 @@ fn read_blocks(
     heads: [Head; Packet::LEVEL],
     end: usize,
 ) -> Blocks
-    requires { ⌜ (count ≤ level) × (first ≤ end) × (end ≤ length (now packet)) ⌝ }
+    requires { ⌜ (count ≤ level) × (first ≤ end) × (end ≤ length (now packet)) × ZerosBehind count heads ⌝ }
     ensures { λ r. ⌜ blocksSeen r ≡ seenBehind end (Heads.heads (seenHeads count heads) (slice first end (now (packet .entry)))) ⌝ }
 {
+    let fall = ages::fall(count, heads);
     let placed = placing::place(first, count, heads);
     let primary = placed.primary;
     if end < primary {
         return refused(Refusal::BlockLengths);
+    }
+    if !fall {
+        return refused(Refusal::BlockAges);
     }
     match placing::check(packet, first, count, heads, end) {
         Outcome::Refused(refusal) => refused(refusal),

@@ -10,7 +10,7 @@ use Rattle.base.specs.Arrays.{over}
 use Rattle.base.specs.Checks.{numberBy}
 use Rattle.base.specs.Every.{Every}
 use Rattle.packet_spec.specs.Limits.{level}
-use Rattle.packet_spec.specs.Header.{Expected}
+use Rattle.packet_spec.specs.Header.{Any, Expected}
 use Rattle.packet_spec.specs.Redundancy.{joined}
 use Rattle.packet_spec.specs.Reading.{Content, reading, holds}
 use Rattle.packet_spec.specs.Encoding.{Admits}
@@ -22,14 +22,14 @@ use Rattle.sender_spec.specs.Answers as answers
 use Rattle.sender_spec.specs.Answers.{CallResult, ClockResult}
 use Rattle.sender_spec.specs.Settings.{settingsNumber}
 use Rattle.sender_spec.specs.Offering.{senderWith}
-use Rattle.sender_spec.specs.Calls.{offerOf, clockOf}
+use Rattle.sender_spec.specs.Calls.{openSender, offerOf, clockOf}
 use Rattle.sender_spec.specs.Packets.{due, taken, left, contentOf, packetBytes, afterPacket}
 use Rattle.sender_spec.specs.Clocking.{clockChecks}
 use Rattle.demands.specs.Ours.{ours}
-use Rattle.demands.specs.Sending.{Call, offer, clock, Written, primarySent, writtenBy, acceptedText, writes, offers, senderAfter, written, typed, finally}
-use Rattle.demands.specs.Demand2.{ReadBack, Demand2}
+use Rattle.demands.specs.Sending.{Call, offer, clock, Written, primarySent, writtenBy, acceptedText, writes, senderAfter, written, typed, finally, sentBy}
+use Rattle.demands.specs.Demand2.{ReadBack, AgesFall, Demand2}
 use Rattle.text_spec.proofs.WellFormed.{characters-are-letters, letters-are-characters}
-use Rattle.packet_spec.proofs.BlocksLie.{lies, block-is}
+use Rattle.packet_spec.proofs.BlocksLie.{lies, block-is, ages-fall}
 use Rattle.receiver_spec.proofs.Core.{accepts}
 use Rattle.sender_spec.proofs.Calls.{clock-sent}
 use Rattle.sender_spec.proofs.ChecksPassed.{open-passed, clock-passed}
@@ -49,13 +49,13 @@ pub read-by : (x : Settings) (p : List ℕ) (c : Content) → ((e : Expected) �
 read-by x p c read r a b h = ap₂ (λ (t140 red : ℕ). reading level (sourceExpected r) t140 red p) a b ∙ read (sourceExpected r) h
 
 -- a packet of a good sender with these settings
-module _ (x : Settings) (s : Sender) (t : ℕ) (e : s .settings ≡ x) (ok : settingsNumber (s .settings) ≡ 0) (g : Good s) (w : Written)
+module _ (x : Settings) (s : Sender) (t : ℕ) (e : s .settings ≡ x) (ok : settingsNumber (s .settings) ≡ 0) (g : Good s) (is-due : due s t ≡ true) (w : Written)
     (bytes : w .packet ≡ packetBytes s t) (is : w .content ≡ contentOf s t) where
   read : (f : Expected) → Admits f (x .source) → reading level f (x .t140) (x .red) (w .packet) ≡ holds (w .content)
   read f a =
       ap (reading level f (x .t140) (x .red)) bytes
       ∙ ap (λ (y : Settings). reading level f (y .t140) (y .red) (packetBytes s t)) (sym e)
-      ∙ reads-back s t ok g f (subst (λ (y : Settings). Admits f (y .source)) (sym e) a)
+      ∙ reads-back s t ok g is-due f (subst (λ (y : Settings). Admits f (y .source)) (sym e) a)
       ∙ ap holds (sym is)
 
   accepted : (r : Receiver) → r .t140 ≡ x .t140 → r .red ≡ x .red → Admits (sourceExpected r) (x .source) → isAccepted (stepOf r (w .packet) .answer) ≡ true
@@ -74,7 +74,16 @@ good-back x (c ∷ cs) s e g = go (senderAfter ours s c) (writes ours s c) (move
         → Every (ReadBack ours x) (ws ++ written ours s₁ cs)
     go s₁ ws still f h = f e h
     go s₁ ws (moved s₂ l a b m d) f h = f (a ∙ e) h
-    go s₁ ws (sends t p l n u w) f h = (back x s t e n g _ w refl, f e h)
+    go s₁ ws (sends t p l n u w) f h = (back x s t e n g u _ w refl, f e h)
+
+-- what is read back has ages that fall
+read-ages : (x : Settings) (ws : List Written) → Every (ReadBack ours x) ws → Every AgesFall ws
+read-ages x [] h = tt
+read-ages x (w ∷ ws) h = (ages-fall level Any (x .t140) (x .red) (w .packet) (w .content) (h .0 .read Any tt), read-ages x ws (h .1))
+
+back-from-opening : (x : Settings) (calls : List Call) → openSender x .number ≡ 0 → Every (ReadBack ours x) (sentBy ours x calls)
+back-from-opening x calls o =
+    subst (λ (s : Sender). Every (ReadBack ours x) (written ours s calls)) (sym (open-passed x o .1)) (good-back x calls (freshSender x) refl (fresh-good x))
 
 abbrev primaries : List Written → List ℕ
 primaries ws = joined (map primarySent ws)
@@ -126,8 +135,8 @@ demand-2 = record {
   hands-out = λ e t140 red p c k h. block-is p c (lies level e t140 red p c h) k;
   joins = joins;
   writes-when-due = writes-when-due;
-  read-back = λ x calls o.
-      subst (λ (s : Sender). Every (ReadBack ours x) (written ours s calls)) (sym (open-passed x o .1)) (good-back x calls (freshSender x) refl (fresh-good x));
+  read-back = back-from-opening;
+  ages-fall = λ x calls o. read-ages x (sentBy ours x calls) (back-from-opening x calls o);
   as-typed = λ x calls o.
       subst (λ (s : Sender). primaries (written ours s calls) ++ finally ours s calls .waiting ≡ typed ours s calls) (sym (open-passed x o .1)) (typed-from calls (freshSender x) (fresh-good x));
 }

@@ -1,15 +1,18 @@
 -- Readers and receivers that are wrong, each with the demand that it fails, by computing one case (01, "How the promises are to
 -- be judged" and "Errors a bidder will be drawn to"). Each is our line with another call or two.
-use Prim.Native.Nat.{ℕ, suc, _+_}
+use Prim.Native.Nat.{ℕ, suc}
 use mathlib.Core.Path.{_≡_, refl, ap}
-use mathlib.Core.List.{List, [], _∷_, _++_, map}
-use mathlib.Core.Bool.{Bool, true, false, cond}
+use mathlib.Core.List.{List, [], _∷_, map}
+use mathlib.Core.Bool.{true, cond}
 use native.Mathlib.Omega.{arith}
+use lib.Dec.{ltb}
 use lib.IntN.{pos, negsuc}
 use lib.ListN.{length, replicate}
+use Rattle.base.specs.Checks.{checked}
+use Rattle.packet_spec.specs.Limits.{level}
 use Rattle.packet_spec.specs.Header.{Expected, Any}
-use Rattle.packet_spec.specs.Redundancy.{headers}
-use Rattle.packet_spec.specs.Reading.{Read, holds, refused, reading}
+use Rattle.packet_spec.specs.Redundancy.{Heads, heads, bad, headers, total, areText}
+use Rattle.packet_spec.specs.Reading.{Read, holds, refused, headerChecks, headsOf, content, reading}
 use Rattle.delivery.specs.Claim.{Near, expectedRecord}
 use Rattle.delivery.specs.Run.{Rules, senderOf}
 use Rattle.receiver_spec.specs.Opening as receiver
@@ -17,15 +20,13 @@ use Rattle.receiver_spec.specs.State.{Receiver}
 use Rattle.receiver_spec.specs.Step.{stepOf}
 use Rattle.receiver_spec.specs.Answers.{Step, gives, isLate, refuses, StepAnswer, Given}
 use Rattle.receiver_spec.specs.Record.{recordOf, acceptedOf}
-use Rattle.sender_spec.specs.State.{Settings, SentBlock, Sender}
-use Rattle.sender_spec.specs.Answers as answers
-use Rattle.sender_spec.specs.Answers.{CallResult, ClockResult}
+use Rattle.sender_spec.specs.State.{Settings}
 use Rattle.sender_spec.specs.Settings.{settingsNumber}
 use Rattle.sender_spec.specs.Calls as sender
-use Rattle.sender_spec.specs.Offering.{senderWith}
-use Rattle.sender_spec.specs.Calls.{offerOf, clockOf, clockQuiet}
+use Rattle.sender_spec.specs.Calls.{offerOf, clockOf}
 use Rattle.demands.specs.Line.{Line}
 use Rattle.demands.specs.Ours.{ours}
+use Rattle.demands.specs.LineTests.{redundant}
 use Rattle.demands.specs.Rules.{KeepsRules}
 use Rattle.demands.specs.Sending.{Call, offer, clock, Written, sentBy, leftBy}
 use Rattle.demands.specs.Demand1.{Demand1}
@@ -62,11 +63,11 @@ keeps = ours-keeps (settings 2) calls refl
 abbrev rules : Rules
 rules = rulesOf (settings 2) ws (leftBy ours (settings 2) calls .clock)
 
--- a reader that refuses everything: by the table's "only when", and by read-back
-abbrev refusing : Line
-refusing = record {
+-- our line with another reader
+abbrev withRead : (Expected → ℕ → ℕ → List ℕ → Read) → Line
+withRead read = record {
   text = ours .text;
-  read = λ e t140 red p. refused 10;
+  read = read;
   block = ours .block;
   openReceiver = ours .openReceiver;
   step = ours .step;
@@ -76,6 +77,10 @@ refusing = record {
   clock = ours .clock;
 }
 
+-- a reader that refuses everything: by the table's "only when", and by read-back
+abbrev refusing : Line
+refusing = withRead (λ e t140 red p. refused 10)
+
 pub refuses-everything-fails : Demand1 refusing → ⊥
 unfolding reading headers sender.openSender settingsNumber offerOf clockOf
 refuses-everything-fails d = let z : _≡_ {A = ℕ} 0 1 = ap numberOf (d .read-number Any 98 100 (packet 0) 10 .0 refl) in omega arith
@@ -83,6 +88,21 @@ refuses-everything-fails d = let z : _≡_ {A = ℕ} 0 1 = ap numberOf (d .read-
 pub refuses-everything-reads-nothing-back : Demand2 refusing → ⊥
 unfolding reading headers sender.openSender settingsNumber offerOf clockOf
 refuses-everything-reads-nothing-back d = let z : _≡_ {A = ℕ} 1 0 = ap numberOf (d .read-back (settings 2) calls refl .0 .read Any tt) in omega arith
+
+-- a reader that passes ages that do not fall: `A` and `B`, both of 300 ms
+abbrev ofAnyAge : List ℕ → Heads → Read
+ofAnyAge p (bad n) = refused n
+ofAnyAge p (heads hs s) = cond (ltb (length s) (total hs)) (refused 20) (cond (areText hs s) (holds (content p hs s)) (refused 21))
+
+abbrev anyAge : Line
+anyAge = withRead (λ e t140 red p. checked refused (headerChecks e t140 red p) (ofAnyAge p (headsOf level t140 p)))
+
+pub any-age-fails : Demand2 anyAge → ⊥
+unfolding reading headers
+any-age-fails d =
+    let p = redundant 0 9 (0xE2 ∷ 0x04 ∷ 0xB0 ∷ 0x01 ∷ 0xE2 ∷ 0x04 ∷ 0xB0 ∷ 0x01 ∷ 0x62 ∷ 0x41 ∷ 0x42 ∷ 0x43 ∷ []) in
+    let z : _≡_ {A = ℕ} 0 1 = ap numberOf (d .reads Any 98 100 p) in
+    omega arith
 
 -- openings that always refuse
 abbrev closed : Line

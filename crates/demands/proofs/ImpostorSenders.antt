@@ -1,15 +1,15 @@
 -- Senders that are wrong, each with the demand that it fails, by computing one list of calls. Each is our line with another
 -- offer or clock call.
-use Prim.Native.Nat.{ℕ, zero, suc}
+use Prim.Native.Nat.{ℕ, zero, suc, _-_}
 use mathlib.Core.Path.{_≡_, refl, ap}
 use mathlib.Core.List.{List, [], _∷_, _++_, map}
-use mathlib.Core.Bool.{true}
+use mathlib.Core.Bool.{Bool, true, false}
 use native.Mathlib.Omega.{arith}
 use lib.ListN.{length}
 use Rattle.packet_spec.specs.Limits.{level}
 use Rattle.packet_spec.specs.Redundancy.{headers}
 use Rattle.packet_spec.specs.Reading.{reading}
-use Rattle.sender_spec.specs.State.{Settings, SentBlock, Sender}
+use Rattle.sender_spec.specs.State.{Settings, SentBlock, Progress, Sender}
 use Rattle.sender_spec.specs.Answers as answers
 use Rattle.sender_spec.specs.Answers.{CallResult, ClockAnswer, ClockResult}
 use Rattle.sender_spec.specs.Settings.{settingsNumber}
@@ -18,7 +18,7 @@ use Rattle.sender_spec.specs.Offering.{senderWith}
 use Rattle.sender_spec.specs.Calls.{offerOf, clockOf, clockQuiet}
 use Rattle.demands.specs.Line.{Line}
 use Rattle.demands.specs.Ours.{ours}
-use Rattle.demands.specs.Sending.{Call, offer, clock}
+use Rattle.demands.specs.Sending.{offer, clock}
 use Rattle.demands.specs.Demand2.{Demand2}
 use Rattle.demands.specs.Demand3.{Demand3}
 use Rattle.demands.proofs.ImpostorReceivers.{settings, space}
@@ -85,9 +85,9 @@ pub kept-twice-fails : Demand2 keptTwice → ⊥
 unfolding sender.openSender settingsNumber offerOf
 kept-twice-fails d = let z : _≡_ {A = ℕ} 2 1 = ap length (d .as-typed (settings 2) (offer 0 (0x41 ∷ []) ∷ []) refl) in omega arith
 
--- a sender with other settings and kept blocks
-abbrev like : Sender → Settings → List SentBlock → Sender
-like s x kept = record {
+-- a sender with other settings, kept blocks and progress
+abbrev like : Sender → Settings → List SentBlock → Progress → Sender
+like s x kept progress = record {
   settings = x;
   clock = s .clock;
   waiting = s .waiting;
@@ -95,7 +95,7 @@ like s x kept = record {
   since = s .since;
   kept = kept;
   times = s .times;
-  progress = s .progress;
+  progress = progress;
 }
 
 -- repeats past the level: a sender of R 1 that writes as one of the highest level; packet 2 repeats `A` too
@@ -103,10 +103,10 @@ abbrev deep : Settings → Settings
 deep x = record { level = level; buffering = x .buffering; rate = x .rate; t140 = x .t140; red = x .red; sequence = x .sequence; timestamp = x .timestamp; source = x .source }
 
 abbrev backTo : Settings → ClockResult → ClockResult
-backTo x r = record { answer = r .answer; sender = like (r .sender) x (r .sender .kept); lent = r .lent }
+backTo x r = record { answer = r .answer; sender = like (r .sender) x (r .sender .kept) (r .sender .progress); lent = r .lent }
 
 abbrev pastLevel : Line
-pastLevel = withSender offerOf (λ s t p. backTo (s .settings) (clockOf (like s (deep (s .settings)) (s .kept)) t p))
+pastLevel = withSender offerOf (λ s t p. backTo (s .settings) (clockOf (like s (deep (s .settings)) (s .kept) (s .progress)) t p))
 
 pub past-level-fails : Demand3 pastLevel → ⊥
 unfolding reading headers sender.openSender settingsNumber offerOf clockOf
@@ -115,16 +115,31 @@ past-level-fails d =
     let z : _≡_ {A = ℕ} 2 1 = ap length (d .keeps (settings 1) calls refl .reads 2 _ refl .older) in
     omega arith
 
--- ages are not tested: kept blocks pass for new ones; `A`, sent at 0, is repeated at 16,384
+-- ages are not tested: kept blocks pass for ones sent 1 ms ago; `A`, sent at 0, is repeated at 16,384
 abbrev renewed : ℕ → List SentBlock → List SentBlock
-renewed t bs = map (λ (b : SentBlock). record { text = b .text; at = t }) bs
+renewed t bs = map (λ (b : SentBlock). record { text = b .text; at = t - 1 }) bs
 
 abbrev ageless : Line
-ageless = withSender offerOf (λ s t p. clockOf (like s (s .settings) (renewed t (s .kept))) t p)
+ageless = withSender offerOf (λ s t p. clockOf (like s (s .settings) (renewed t (s .kept)) (s .progress)) t p)
 
 pub ageless-fails : Demand3 ageless → ⊥
 unfolding reading headers sender.openSender settingsNumber offerOf clockOf
 ageless-fails d =
     let calls = offer 0 (0x41 ∷ []) ∷ clock 0 space ∷ clock 16384 space ∷ [] in
     let z : _≡_ {A = ℕ} 1 0 = ap length (d .keeps (settings 1) calls refl .reads 1 _ refl .older) in
+    omega arith
+
+-- does not wait: the last packet passes for one sent at 0; `A` and `B` both leave at 300, and packet 1 repeats `A` as 0 ms old
+abbrev lastAtZero : Progress → Progress
+lastAtZero p = record { sent = p .sent; last = 0; lastText = p .lastText; next = p .next }
+
+abbrev hasty : Line
+hasty = withSender offerOf (λ s t p. clockOf (like s (s .settings) (s .kept) (lastAtZero (s .progress))) t p)
+
+pub hasty-fails : Demand2 hasty → ⊥
+unfolding sender.openSender settingsNumber offerOf clockOf
+hasty-fails d =
+    let calls = offer 300 (0x41 ∷ []) ∷ clock 300 space ∷ offer 300 (0x42 ∷ []) ∷ clock 300 space ∷ [] in
+    let e : _≡_ {A = Bool} false true = d .ages-fall (settings 1) calls refl .1 .0 in
+    let z : _≡_ {A = ℕ} 0 1 = cc in
     omega arith

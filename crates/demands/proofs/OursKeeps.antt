@@ -2,12 +2,12 @@
 use Prim.Native.Nat.{ℕ, zero, suc, _+_, _-_, _≤_, _<_}
 use mathlib.Core.Path.{_≡_, _∙_, refl, ap, sym, subst}
 use mathlib.Core.List.{List, [], _∷_, _++_, map, map-map}
-use mathlib.Core.Bool.{Bool, true, false, not, _||_, _&&_}
+use mathlib.Core.Bool.{Bool, true, false}
 use native.Mathlib.Nat.{add-zero, zero-add, le-refl}
 use native.Mathlib.Omega.{arith}
-use lib.Dec.{ltb, leb}
+use lib.Dec.{ltb}
 use lib.ListN.{length, getD, List·getD-eq-default, length-map}
-use borrow.Author.Tests.{ltb-true, ltb-false, leb-true}
+use borrow.Author.Tests.{ltb-true, ltb-false}
 use Rattle.packet_spec.specs.Limits.{level}
 use Rattle.packet_spec.specs.Header.{Any, typesBad}
 use Rattle.packet_spec.specs.Reading.{Content, holds, refused, reading}
@@ -22,6 +22,7 @@ use Rattle.demands.specs.Demand2.{ReadBack}
 use Rattle.demands.specs.Demand3.{rulesOf, packetAt, SpacedAfter}
 use Rattle.base.specs.Every.{Every}
 use Rattle.base.proofs.Maps.{getD-map, getD-map-inside}
+use Rattle.sender_spec.proofs.TimesFall.{due-apart}
 use Rattle.sender_spec.proofs.StaysSendable.{fresh-good}
 use Rattle.sender_spec.proofs.SettingsPass.{settings-good}
 use Rattle.demands.proofs.FollowsLog.{blockOf, Move, still, moved, sends, move, logFrom, rises, rules, At, Packets, follow}
@@ -32,25 +33,13 @@ pub spaced : (cs : List Call) (s : Sender) → SpacedAfter (s .progress .sent) (
 spaced [] s = tt
 spaced (c ∷ cs) s = go (senderAfter ours s c) (writes ours s c) (move s c) (spaced cs (senderAfter ours s c))
   where
-    passed : (x : Bool) (b r : Bool) → ((not x || b) && r) ≡ true → x ≡ true → b ≡ true
-    passed true true r e h = refl
-    passed true false r e h = absurd (let z : _≡_ {A = ℕ} 0 1 = cc in omega arith)
-    passed false b r e h = absurd (let z : _≡_ {A = ℕ} 0 1 = cc in omega arith)
-
     go : (s₁ : Sender) (ws : List Written) → Move s s₁ ws → SpacedAfter (s₁ .progress .sent) (s₁ .progress .last) (s₁ .settings .buffering) (written ours s₁ cs)
         → SpacedAfter (s .progress .sent) (s .progress .last) (s .settings .buffering) (ws ++ written ours s₁ cs)
     go s₁ ws still f = f
     go s₁ ws (moved s₂ l a b m d) f =
         subst (λ (x : Settings). SpacedAfter (s .progress .sent) (s .progress .last) (x .buffering) (written ours s₂ cs)) a
         (subst (λ (x : Progress). SpacedAfter (x .sent) (x .last) (s₂ .settings .buffering) (written ours s₂ cs)) d f)
-    go s₁ ws (sends t p l n u w) f = (
-      λ h.
-          let b : s .settings .buffering ≤ t - s .progress .last =
-          leb-true (s .settings .buffering) (t - s .progress .last) (passed (s .progress .sent) (leb (s .settings .buffering) (t - s .progress .last)) _ u h) in
-          let g : 1 ≤ s .settings .buffering = settings-good (s .settings) n .buffered .0 in
-          omega arith,
-      f,
-    )
+    go s₁ ws (sends t p l n u w) f = (due-apart s t n u, f)
 
 -- a packet past the last one has no bytes, and the reader refuses it
 nothing-read : (t140 red : ℕ) (c : Content) → typesBad t140 red ≡ false → reading level Any t140 red [] ≡ holds c → ⊥

@@ -12,7 +12,7 @@ use Rattle.text_spec.specs.Utf8.{Characters}
 use Rattle.text_spec.specs.WellFormed.{Letters}
 use Rattle.packet_spec.specs.Limits.{level}
 use Rattle.packet_spec.specs.Header.{Expected}
-use Rattle.packet_spec.specs.Redundancy.{joined}
+use Rattle.packet_spec.specs.Redundancy.{falling, offsets, joined}
 use Rattle.packet_spec.specs.Reading.{Content, holds, reading, blocks}
 use Rattle.packet_spec.specs.Encoding.{Admits}
 use Rattle.receiver_spec.specs.State.{Receiver, sourceExpected}
@@ -32,6 +32,10 @@ pub record ReadBack (l : Line) (x : Settings) (w : Written) : Type 0 where
   pub read : (e : Expected) → Admits e (x .source) → l .read e (x .t140) (x .red) (w .packet) ≡ holds (w .content)
   pub accepted : (r : Receiver) → r .t140 ≡ x .t140 → r .red ≡ x .red → Admits (sourceExpected r) (x .source) → isAccepted (l .step r (w .packet) .answer) ≡ true
 
+-- "Older blocks' offsets must fall strictly and end at 1 or more" (02, request 2)
+abbrev pub AgesFall : Written → Type 0
+AgesFall w = falling (offsets (w .content .older)) ≡ true
+
 pub record Demand2 (l : Line) : Type 0 where
   -- text is letters of RFC 3629's table, one behind the other
   pub letters : (s : List ℕ) (n : ℕ) → (l .text s ≡ Characters n) ↔ Letters n s
@@ -45,6 +49,8 @@ pub record Demand2 (l : Line) : Type 0 where
       → (l .clock s t p .answer ≡ answers.sent (length (packetBytes s t))) × (l .clock s t p .lent ≡ over (packetBytes s t) p) × (l .clock s t p .sender ≡ afterPacket s t)
   -- over every list of calls from an accepted opening: what was written is read back,
   pub read-back : (x : Settings) (calls : List Call) → l .openSender x .number ≡ 0 → Every (ReadBack l x) (sentBy l x calls)
+  -- the ages of its older blocks fall,
+  pub ages-fall : (x : Settings) (calls : List Call) → l .openSender x .number ≡ 0 → Every AgesFall (sentBy l x calls)
   -- and the primaries, joined, and then what waits are the texts of the accepted offers: nothing is lost, doubled or moved
   pub as-typed : (x : Settings) (calls : List Call) → l .openSender x .number ≡ 0
       → joined (map primarySent (sentBy l x calls)) ++ leftBy l x calls .waiting ≡ typedBy l x calls

@@ -29,6 +29,7 @@ pub enum Refusal {
     BlockType,
     BlockLengths,
     BlockText,
+    BlockAges,
 }
 
 impl Refusal {
@@ -58,6 +59,7 @@ impl Refusal {
             Refusal::BlockType => 19,
             Refusal::BlockLengths => 20,
             Refusal::BlockText => 21,
+            Refusal::BlockAges => 22,
         }
     }
 }

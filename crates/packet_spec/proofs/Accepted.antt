@@ -1,19 +1,20 @@
 -- What is known of an accepted packet.
 use Prim.Native.Nat.{ℕ, zero, suc, _+_, _-_, _≤_}
-use mathlib.Core.Path.{_≡_, _∙_, refl}
+use mathlib.Core.Path.{_≡_, _∙_, refl, sym}
 use mathlib.Core.List.{List, [], _∷_, _++_}
 use mathlib.Core.Bool.{Bool, true, false, cond}
 use native.Mathlib.Omega.{arith}
 use lib.Dec.{ltb, eqb}
 use lib.ListN.{length, getD, drop, length-append}
 use lib.Seq.{drop-drop}
-use borrow.Author.Tests.{ltb-false, not-false}
+use borrow.Author.Tests.{ltb-true, ltb-false}
 use Rattle.packet_spec.specs.Header.{Expected, payloadType, payload}
-use Rattle.packet_spec.specs.Redundancy.{Head, Heads, heads, bad, headOf, header, headers, total, areText}
+use Rattle.packet_spec.specs.Redundancy.{Head, Heads, heads, bad, headOf, header, headers, total, agesFall, areText}
 use Rattle.base.specs.Checks.{Check, checked}
-use Rattle.packet_spec.specs.Reading.{Content, Read, holds, refused, headerChecks, headsOf, content, blockChecks, blocksRead, reading}
-use Rattle.base.proofs.Tests.{by-test}
+use Rattle.packet_spec.specs.Reading.{Content, Read, holds, refused, headerChecks, headsOf, content, blocksRead, reading}
+use Rattle.base.proofs.Tests.{by-test, surely, otherwise}
 use Rattle.base.proofs.InOrder.{NoneApplies}
+use Rattle.packet_spec.proofs.CheckOrder.{gives-20, gives-21, gives-22, past-21}
 
 pub none-applies : (ks : List Check) (x : Read) (c : Content) → checked refused ks x ≡ holds c → NoneApplies ks × (x ≡ holds c)
 none-applies [] x c e = (tt, e)
@@ -60,6 +61,10 @@ heads-behind n t plain m =
     by-test (Behind n m) plain {x = heads [] m} (λ _. (omega arith, (0, refl)))
     (λ _. headers-behind n t n [] m (omega arith))
 
+-- a refusal is not accepted
+not-refused : {r : Read} {c : Content} (n : ℕ) → r ≡ holds c → r ≡ refused n → ⊥
+not-refused n e f = absurd (let z : _≡_ {A = ℕ} 0 1 = cc in omega arith)
+
 pub record Accepted (n : ℕ) (expected : Expected) (t140 red : ℕ) (p : List ℕ) (c : Content) : Type 0 where
   pub checks : NoneApplies (headerChecks expected t140 red p)
   pub hs : List Head
@@ -68,6 +73,7 @@ pub record Accepted (n : ℕ) (expected : Expected) (t140 red : ℕ) (p : List �
   pub from : ℕ
   pub behind : s ≡ drop from (payload p)
   pub fit : total hs ≤ length s
+  pub ages : agesFall hs ≡ true
   pub text : areText hs s ≡ true
   pub is : c ≡ content p hs s
 
@@ -80,7 +86,10 @@ accepted n expected t140 red p c e =
     go : (h : Heads) → Behind n (payload p) h → NoneApplies (headerChecks expected t140 red p) → blocksRead p h ≡ holds c → Accepted n expected t140 red p c
     go (bad k) b w f = absurd (let z : _≡_ {A = ℕ} 0 1 = cc in omega arith)
     go (heads hs s) b w f =
-        let v = none-applies (blockChecks hs s) (holds (content p hs s)) c f in
+        let x = holds (content p hs s) in
+        let fit : total hs ≤ length s = ltb-false (length s) (total hs) (otherwise (ltb (length s) (total hs)) (λ e. not-refused 20 f (gives-20 refused hs s x (ltb-true (length s) (total hs) e)))) in
+        let ages : agesFall hs ≡ true = surely (agesFall hs) (λ e. not-refused 22 f (gives-22 refused hs s x fit e)) in
+        let text : areText hs s ≡ true = surely (areText hs s) (λ e. not-refused 21 f (gives-21 refused hs s x fit ages e)) in
         record {
           checks = w;
           hs = hs;
@@ -88,7 +97,8 @@ accepted n expected t140 red p c e =
           few = b .0;
           from = b .1 .0;
           behind = b .1 .1;
-          fit = ltb-false (length s) (total hs) (v .0 .0);
-          text = not-false (areText hs s) (v .0 .1 .0);
-          is = let q : holds (content p hs s) ≡ holds c = v .1 in cc;
+          fit = fit;
+          ages = ages;
+          text = text;
+          is = let q : holds (content p hs s) ≡ holds c = sym (past-21 refused hs s x fit ages text) ∙ f in cc;
         }

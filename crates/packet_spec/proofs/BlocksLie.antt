@@ -1,8 +1,8 @@
--- What is known of a packet that the reader accepts: its blocks fill the payload's end, they are text and few, and the packet
--- has the source that was expected.
+-- What is known of a packet that the reader accepts: its blocks fill the payload's end, their ages fall, they are text and few,
+-- and the packet has the source that was expected.
 use Prim.Native.Nat.{ℕ, suc, _+_, _-_, _≤_}
 use mathlib.Core.Path.{_≡_, _∙_, refl, ap, sym, subst}
-use mathlib.Core.List.{List, [], _∷_}
+use mathlib.Core.List.{List, [], _∷_, map}
 use mathlib.Core.Bool.{Bool, true, false}
 use native.Mathlib.Omega.{arith}
 use lib.Dec.{ltb, eqb}
@@ -13,7 +13,7 @@ use Rattle.base.specs.Arrays.{part}
 use Rattle.base.specs.Checks.{Check, checked}
 use Rattle.packet_spec.specs.Limits.{longest}
 use Rattle.packet_spec.specs.Header.{Any, Only, Expected, headerEnd, payloadEnd, payload, sourceOf}
-use Rattle.packet_spec.specs.Redundancy.{Head, Block, olderOf, primaryOf, blocksOf, joined, allText}
+use Rattle.packet_spec.specs.Redundancy.{Head, Block, falling, offsets, olderOf, primaryOf, blocksOf, joined, allText}
 use Rattle.packet_spec.specs.Reading.{Content, Read, holds, refused, headerChecks, headsOf, content, blocksRead, reading, blocks, startsAt, blockAt}
 use Rattle.base.proofs.PartOf.{part-slice}
 use Rattle.base.proofs.Slices.{take-slice, drop-slice, slice-end}
@@ -29,6 +29,10 @@ blocks-length (b ∷ bs) primary = ap suc (blocks-length bs primary)
 pub older-length : (hs : List Head) (s : List ℕ) → length (olderOf hs s) ≡ length hs
 older-length [] s = refl
 older-length (h ∷ hs) s = ap suc (older-length hs (drop (h .len) s))
+
+pub older-offsets : (hs : List Head) (s : List ℕ) → offsets (olderOf hs s) ≡ map (λ h. h .offset) hs
+older-offsets [] s = refl
+older-offsets (h ∷ hs) s = ap (λ (l : List ℕ). h .offset ∷ l) (older-offsets hs (drop (h .len) s))
 
 -- arithmetic of places
 within-end : (l m k e h : ℕ) → l ≡ m - k → m ≡ e - h → l ≤ e
@@ -114,6 +118,10 @@ module _ (n : ℕ) (expected : Expected) (t140 red : ℕ) (p : List ℕ) (c : Co
 
   pub are-text : allText (blocks c) ≡ true
   are-text = let a = is-accepted in ap (λ (k : Content). allText (blocks k)) (a .is) ∙ a .text
+
+  -- the ages of its older blocks fall, to 1 or more
+  pub ages-fall : falling (offsets (c .older)) ≡ true
+  ages-fall = let a = is-accepted in ap (λ (k : Content). falling (offsets (k .older))) (a .is) ∙ ap falling (older-offsets (a .hs) (a .s)) ∙ a .ages
 
   pub few : length (c .older) ≤ n
   few = let a = is-accepted in omega (arith, ap (λ (k : Content). length (k .older)) (a .is) ∙ older-length (a .hs) (a .s), a .few)

@@ -7,7 +7,7 @@ use lib.Dec.{ltb}
 use lib.ListN.{length, drop}
 use borrow.Author.Tests.{lt-ltb, le-ltb, eq-eqb, ne-eqb}
 use Rattle.packet_spec.specs.Header.{Expected, version, headerEnd, paddingBad, typesBad, otherType, otherSource}
-use Rattle.packet_spec.specs.Redundancy.{Head, total, areText}
+use Rattle.packet_spec.specs.Redundancy.{Head, total, agesFall, areText}
 use Rattle.packet_spec.specs.Limits.{shortest, longest}
 use Rattle.base.specs.Checks.{checked}
 use Rattle.packet_spec.specs.Reading.{headerChecks, blockChecks}
@@ -69,8 +69,12 @@ module _ {A : Type 0} (refuse : ℕ → A) (hs : List Head) (s : List ℕ) (x : 
   gives-20 h = rw (lt-ltb (length s) (total hs) h)
 
   module _ (fit : total hs ≤ length s) where
-    pub gives-21 : areText hs s ≡ false → checked refuse (blockChecks hs s) x ≡ refuse 21
-    gives-21 e = rw (le-ltb (length s) (total hs) fit, e)
+    pub gives-22 : agesFall hs ≡ false → checked refuse (blockChecks hs s) x ≡ refuse 22
+    gives-22 e = rw (le-ltb (length s) (total hs) fit, e)
 
-    pub past-21 : areText hs s ≡ true → checked refuse (blockChecks hs s) x ≡ x
-    past-21 e = rw (le-ltb (length s) (total hs) fit, e)
+    module _ (ages : agesFall hs ≡ true) where
+      pub gives-21 : areText hs s ≡ false → checked refuse (blockChecks hs s) x ≡ refuse 21
+      gives-21 e = rw (le-ltb (length s) (total hs) fit, ages, e)
+
+      pub past-21 : areText hs s ≡ true → checked refuse (blockChecks hs s) x ≡ x
+      past-21 e = rw (le-ltb (length s) (total hs) fit, ages, e)

@@ -1,4 +1,5 @@
 pub mod Payload
+pub mod Falling
 pub mod HeadersByFacts
 pub mod CheckOrder
 pub mod Accepted

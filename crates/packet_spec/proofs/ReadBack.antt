@@ -1,7 +1,7 @@
 -- A packet that is written is read back: every field and every block, at any level.
 use Prim.Native.Nat.{ℕ, zero, suc, _+_, _-_, _*_, _/_, _%_, _≤_, _<_}
 use mathlib.Core.Path.{_≡_, _∙_, refl, ap, sym}
-use mathlib.Core.List.{List, [], _∷_, _++_, append-assoc, append-nil}
+use mathlib.Core.List.{List, [], _∷_, _++_, map, append-assoc, append-nil}
 use mathlib.Core.Bool.{Bool, true, false, cond, not, _||_}
 use native.Mathlib.Omega.{arith}
 use lib.Dec.{ltb, leb, eqb}
@@ -9,7 +9,7 @@ use lib.ListN.{length, drop, length-append}
 use lib.Seq.{take-all, take-append-seam, drop-append-seam, drop-drop}
 use borrow.Author.Tests.{le-ltb, lt-leb, le-leb, eq-eqb, ne-eqb, ltb-false, eqb-false}
 use Rattle.packet_spec.specs.Header.{Expected, Any, Only, payloadType, payload, typesBad, otherType, otherSource, sourceOf}
-use Rattle.packet_spec.specs.Redundancy.{Head, Heads, heads, Block, headOf, headers, total, olderOf, primaryOf, blocksOf, joined, allText, areText}
+use Rattle.packet_spec.specs.Redundancy.{Head, Heads, heads, Block, headOf, headers, total, falling, agesFall, offsets, olderOf, primaryOf, blocksOf, joined, allText, areText}
 use Rattle.packet_spec.specs.Limits.{longest}
 use Rattle.packet_spec.specs.Reading.{Content, holds, refused, content, headsOf, blocksRead, reading}
 use Rattle.packet_spec.specs.Encoding.{markerBit, headerBytes, headBytes, headsBytes, plainBytes, redundantBytes, Admits}
@@ -71,6 +71,10 @@ primary-back (b ∷ bs) q =
 total-back : (bs : List Block) (q : List ℕ) → total (headsFor bs) ≤ length (joined (blocksOf bs q))
 total-back [] q = omega arith
 total-back (b ∷ bs) q = omega (arith, total-back bs q, length-append (b .bytes) (joined (blocksOf bs q)))
+
+ages-back : (bs : List Block) → map (λ h. h .offset) (headsFor bs) ≡ offsets bs
+ages-back [] = refl
+ages-back (b ∷ bs) = ap (λ (l : List ℕ). b .offset ∷ l) (ages-back bs)
 
 marker-back : (m : Bool) (k : ℕ) → k < 128 → leb 128 (markerBit m + k) ≡ m
 marker-back true k h = le-leb 128 (128 + k) (omega arith)
@@ -135,10 +139,10 @@ module _ (n : ℕ) (expected : Expected) (t140 red : ℕ) (c : Content) (type : 
       ∙ ap (λ (s : List ℕ). blocksRead p (headsBy n t140 p s)) payload-is
 
   -- with all its blocks read
-  whole : (hs : List Head) (s : List ℕ) → total hs ≤ length s → areText hs s ≡ true → olderOf hs s ≡ c .older → primaryOf hs s ≡ c .primary
+  whole : (hs : List Head) (s : List ℕ) → total hs ≤ length s → agesFall hs ≡ true → areText hs s ≡ true → olderOf hs s ≡ c .older → primaryOf hs s ≡ c .primary
       → blocksRead p (heads hs s) ≡ holds c
-  whole hs s fit text o q =
-      past-21 refused hs s (holds (content p hs s)) fit text
+  whole hs s fit ages text o q =
+      past-21 refused hs s (holds (content p hs s)) fit ages text
       ∙ ap holds (λ i. record {
         marker = marker-back (c .marker) type small i;
         sequence = two-bytes (c .sequence) i;
@@ -160,13 +164,13 @@ module _ (n : ℕ) (expected : Expected) (t140 red : ℕ) (c : Content) (types :
       let h : headsBy n t140 p (c .primary) ≡ heads [] (c .primary) = rw (eq-eqb (payloadType p) t140 type) in
       passed n expected t140 red c t140 (c .primary) types admits small short other
       ∙ ap (blocksRead p) h
-      ∙ whole n expected t140 red c t140 (c .primary) types admits small short [] (c .primary) (omega arith)
+      ∙ whole n expected t140 red c t140 (c .primary) types admits small short [] (c .primary) (omega arith) refl
       (ap (λ (l : List Block). allText (blocksOf l (c .primary))) (sym none) ∙ text) (sym none) refl
 
   -- as type RED
-  pub redundant-back : length (c .older) ≤ n → LengthsFit (c .older) → length (redundantBytes t140 red c) ≤ longest
+  pub redundant-back : length (c .older) ≤ n → LengthsFit (c .older) → falling (offsets (c .older)) ≡ true → length (redundantBytes t140 red c) ≤ longest
       → reading n expected t140 red (redundantBytes t140 red c) ≡ holds c
-  redundant-back few fit short =
+  redundant-back few fit ages short =
       let small : t140 < 128 = types-small t140 red types .0 in
       let small-red : red < 128 = types-small t140 red types .1 in
       let body = joined (blocksOf (c .older) (c .primary)) in
@@ -182,4 +186,4 @@ module _ (n : ℕ) (expected : Expected) (t140 red : ℕ) (c : Content) (types :
       rw (ne-eqb (payloadType p) t140 (λ e. types-small t140 red types .2 (sym e ∙ type))) (heads-back t140 n [] (c .older) body small few fit) in
       passed n expected t140 red c red rest types admits small-red short other
       ∙ ap (blocksRead p) h
-      ∙ whole n expected t140 red c red rest types admits small-red short hs body (total-back (c .older) (c .primary)) t o q
+      ∙ whole n expected t140 red c red rest types admits small-red short hs body (total-back (c .older) (c .primary)) (ap falling (ages-back (c .older)) ∙ ages) t o q

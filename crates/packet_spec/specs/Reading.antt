@@ -8,7 +8,7 @@ use Rattle.base.specs.Arrays.{part}
 use Rattle.base.specs.Checks.{Check, _gives_, checked}
 use Rattle.packet_spec.specs.Limits.{shortest, longest}
 use Rattle.packet_spec.specs.Header.{version, headerEnd, paddingBad, payloadType, payloadEnd, payload, typesBad, otherType, Expected, otherSource, markerOf, sequenceOf, timestampOf, sourceOf}
-use Rattle.packet_spec.specs.Redundancy.{Head, Heads, heads, bad, headers, total, Block, olderOf, primaryOf, blocksOf, joined, areText}
+use Rattle.packet_spec.specs.Redundancy.{Head, Heads, heads, bad, headers, total, agesFall, Block, olderOf, primaryOf, blocksOf, joined, areText}
 
 pub record Content : Type 0 where
   pub marker : Bool
@@ -51,6 +51,7 @@ content p hs s = record {
 abbrev pub blockChecks : List Head → List ℕ → List Check
 blockChecks hs s =
     ltb (length s) (total hs) gives 20
+    ∷ not (agesFall hs) gives 22
     ∷ not (areText hs s) gives 21
     ∷ []
 

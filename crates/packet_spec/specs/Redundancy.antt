@@ -41,6 +41,15 @@ abbrev pub total : List Head → ℕ
 total [] = 0
 total (h ∷ hs) = h .len + total hs
 
+-- numbers that fall: each is above the next one, and the last above 0
+abbrev pub falling : List ℕ → Bool
+falling [] = true
+falling (n ∷ ns) = ltb (getD ns 0 0) n && falling ns
+
+-- "Older blocks' offsets must fall strictly and end at 1 or more" (02, request 2): the primary's is 0
+abbrev pub agesFall : List Head → Bool
+agesFall hs = falling (map (λ h. h .offset) hs)
+
 pub record Block : Type 0 where
   pub offset : ℕ
   pub bytes : List ℕ
@@ -52,6 +61,9 @@ olderOf (h ∷ hs) s = record { offset = h .offset; bytes = take (h .len) s } �
 
 abbrev pub primaryOf : List Head → List ℕ → List ℕ
 primaryOf hs s = drop (total hs) s
+
+abbrev pub offsets : List Block → List ℕ
+offsets bs = map (λ b. b .offset) bs
 
 abbrev pub blocksOf : List Block → List ℕ → List (List ℕ)
 blocksOf older primary = map (λ b. b .bytes) older ++ (primary ∷ [])

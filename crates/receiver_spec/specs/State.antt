@@ -29,6 +29,6 @@ openingChecks t140 red = typesBad t140 red gives 3 ∷ []
 abbrev pub sourceExpected : Receiver → Expected
 sourceExpected r = cond (r .hasSource) (Only (r .source)) Any
 
--- a packet as the step reads it: 3 on the types held, 10 to 15, 16, 17 to 21
+-- a packet as the step reads it: 3 on the types held, 10 to 15, 16, 17 to 20, 22, 21
 abbrev pub readBy : Receiver → List ℕ → Read
 readBy r p = reading level (sourceExpected r) (r .t140) (r .red) p

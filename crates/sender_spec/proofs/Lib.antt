@@ -7,6 +7,7 @@ pub mod ChecksPassed
 pub mod Shapes
 pub mod AllowedTurns
 pub mod Allowed
+pub mod TimesFall
 pub mod StaysSendable
 pub mod Sizes
 pub mod Carried

@@ -1,6 +1,6 @@
--- Every packet that a good sender would write is accepted, and read back whole.
+-- Every packet that is due of a good sender is accepted, and read back whole.
 use Prim.Native.Nat.{ℕ, _≤_}
-use mathlib.Core.Path.{_≡_, refl, ap}
+use mathlib.Core.Path.{_≡_, ap}
 use mathlib.Core.List.{List, [], _∷_, map, reverse}
 use mathlib.Core.Bool.{true, false}
 use native.Mathlib.Omega.{arith}
@@ -15,14 +15,14 @@ use Rattle.packet_spec.specs.Reading.{holds, reading}
 use Rattle.packet_spec.specs.Encoding.{plainBytes, redundantBytes, Admits}
 use Rattle.sender_spec.specs.Settings.{settingsNumber}
 use Rattle.sender_spec.specs.State.{Sender}
-use Rattle.sender_spec.specs.Packets.{recentRun, repeated, contentOf, packetBytes}
+use Rattle.sender_spec.specs.Packets.{recentRun, repeated, due, contentOf, packetBytes}
 use Rattle.base.proofs.Tests.{by-test}
 use Rattle.packet_spec.proofs.ReadBack.{plain-back, redundant-back}
 use Rattle.base.specs.Every.{Every}
 use Rattle.sender_spec.proofs.StaysSendable.{Sendable, Good, taken-good}
 use Rattle.sender_spec.proofs.SettingsPass.{settings-good}
 use Rattle.sender_spec.proofs.Sizes.{Short, plain-fits, packet-fits, lengths-fit}
-use Rattle.sender_spec.proofs.Carried.{Repeatable, older-few, older-good}
+use Rattle.sender_spec.proofs.Carried.{Repeatable, older-few, older-good, older-fall}
 
 all-text : (bs : List Block) (x : List ℕ) → Every Repeatable bs → Sendable x → allText (blocksOf bs x) ≡ true
 all-text [] x e h = rw (h .0)
@@ -32,7 +32,7 @@ all-short : (bs : List Block) → Every Repeatable bs → Every Short bs
 all-short [] e = tt
 all-short (b ∷ bs) e = (e .0 .0 .1, all-short bs (e .1))
 
-module _ (s : Sender) (t : ℕ) (ok : settingsNumber (s .settings) ≡ 0) (g : Good s) where
+module _ (s : Sender) (t : ℕ) (ok : settingsNumber (s .settings) ≡ 0) (g : Good s) (is-due : due s t ≡ true) where
   -- by a reader that expects the source
   module _ (expected : Expected) (admits : Admits expected (s .settings .source)) where
     abbrev ReadBack : List ℕ → Type 0
@@ -56,6 +56,7 @@ module _ (s : Sender) (t : ℕ) (ok : settingsNumber (s .settings) ≡ 0) (g : G
         let few : length older ≤ level = le-trans (older-few s t) (settings-good (s .settings) ok .few) in
         let short : Every Short older = all-short older (older-good s t g) in
         redundant-back level expected (s .settings .t140) (s .settings .red) (contentOf s t) types admits text few (lengths-fit older short)
+        (older-fall s t ok g is-due)
         (packet-fits level (omega arith) (s .settings .t140) (s .settings .red) (contentOf s t) few short (taken-good s t g .1))
 
     pub reads-back : reading level expected (s .settings .t140) (s .settings .red) (packetBytes s t) ≡ holds (contentOf s t)

@@ -1,5 +1,5 @@
--- What the calls leave is good: waiting text and kept blocks may be sent.
-use Prim.Native.Nat.{ℕ, _+_, _-_, _≤_, min}
+-- What the calls leave is good: waiting text and kept blocks may be sent, and the kept blocks' times fall.
+use Prim.Native.Nat.{ℕ, suc, _+_, _-_, _≤_, min}
 use mathlib.Core.Path.{_≡_, _∙_, refl, ap, sym}
 use mathlib.Core.List.{List, [], _∷_, _++_}
 use mathlib.Core.Bool.{true}
@@ -11,10 +11,11 @@ use Rattle.packet_spec.specs.Limits.{level}
 use Rattle.text_spec.specs.Utf8.{Text, Characters, Stops, textOf, wellFormed, isText}
 use Rattle.text_spec.specs.Front.{counted, characters, front}
 use Rattle.sender_spec.specs.Limits.{roomSize}
+use Rattle.sender_spec.specs.Settings.{settingsNumber}
 use Rattle.sender_spec.specs.State.{Settings, SentBlock, Sender, freshSender}
 use Rattle.sender_spec.specs.Answers.{CallResult, ClockResult}
 use Rattle.sender_spec.specs.Calls.{offerOf, clockOf}
-use Rattle.sender_spec.specs.Packets.{going, taken, left, afterPacket}
+use Rattle.sender_spec.specs.Packets.{going, taken, left, due, afterPacket}
 use Rattle.sender_spec.specs.Rate.{limitOf}
 use Rattle.text_spec.proofs.TextJoin.{text-join}
 use Rattle.text_spec.proofs.FrontLaws.{join-counts, count-within, front-rest, front-counts, rest-counts, front-all}
@@ -22,6 +23,7 @@ use Rattle.base.proofs.Tests.{by-test}
 use Rattle.sender_spec.proofs.AllowedTurns.{allowed-few}
 use Rattle.base.specs.Every.{Every}
 use Rattle.base.proofs.EveryLaws.{every-take}
+use Rattle.sender_spec.proofs.TimesFall.{TimesFall, behindLast, times-take, due-fall}
 use Rattle.sender_spec.proofs.Shapes.{Offer, joined, Clock, quiet, sent, offer-shape, clock-shape}
 use Rattle.sender_spec.proofs.Shapes
 
@@ -32,17 +34,18 @@ Sendable x = (isText x ≡ true) × (length x ≤ roomSize)
 abbrev pub AllSendable : List SentBlock → Type 0
 AllSendable bs = Every (λ (b : SentBlock). Sendable (b .text)) bs
 
--- the text that waits is counted
+-- the text that waits is counted; the times of the blocks kept fall from the last packet's on, and before the first none is kept
 pub record Good (s : Sender) : Type 0 where
   pub waiting : Sendable (s .waiting)
   pub counts : textOf (s .waiting) ≡ Characters (s .characters)
   pub kept : AllSendable (s .kept)
+  pub fall : TimesFall (behindLast (s .progress)) (s .kept)
 
 nothing-sendable : Sendable []
 nothing-sendable = (refl, omega arith)
 
 pub fresh-good : (x : Settings) → Good (freshSender x)
-fresh-good x = record { waiting = nothing-sendable; counts = refl; kept = tt }
+fresh-good x = record { waiting = nothing-sendable; counts = refl; kept = tt; fall = tt }
 
 joined-sendable : (x y : List ℕ) → Sendable x → isText y ≡ true → length x + length y ≤ roomSize → Sendable (x ++ y)
 joined-sendable x y h e k = (text-join x y (h .0) e, omega (arith, length-append x y))
@@ -68,6 +71,7 @@ offer-good s t x g = go (offerOf s t x) (offer-shape s t x)
           let all : s .characters + characters x ≡ min (s .characters + characters x) roomSize = omega (arith, length-append (s .waiting) x) in
           both ∙ ap Characters all;
       kept = g .kept;
+      fall = g .fall;
     }
 
 -- what a packet takes is a front of what waits: so many characters
@@ -107,11 +111,12 @@ module _ (s : Sender) (t : ℕ) (g : Good s) where
   left-good : Sendable (left s t)
   left-good = let e = lengths in let h = g .waiting .1 in (ap wellFormed left-counts, omega arith)
 
-  after-good : Good (afterPacket s t)
-  after-good = record {
+  after-good : settingsNumber (s .settings) ≡ 0 → due s t ≡ true → Good (afterPacket s t)
+  after-good ok is-due = record {
     waiting = left-good;
     counts = left-counts;
     kept = every-take (λ (b : SentBlock). Sendable (b .text)) level (record { text = taken s t; at = t } ∷ s .kept) (taken-good, g .kept);
+    fall = times-take (suc t) level (record { text = taken s t; at = t } ∷ s .kept) (omega arith, due-fall s t ok is-due (g .fall));
   }
 
 pub clock-good : (s : Sender) (t : ℕ) (p : List ℕ) → Good s → Good (clockOf s t p .sender)
@@ -119,5 +124,5 @@ clock-good s t p g = go (clockOf s t p) (clock-shape s t p)
   where
     go : (r : ClockResult) → Clock s t p r → Good (r .sender)
     go r (Shapes.refused n) = g
-    go r (quiet later not-due) = record { waiting = g .waiting; counts = g .counts; kept = g .kept }
-    go r (sent ok later is-due fits) = after-good s t g
+    go r (quiet later not-due) = record { waiting = g .waiting; counts = g .counts; kept = g .kept; fall = g .fall }
+    go r (sent ok later is-due fits) = after-good s t g ok is-due

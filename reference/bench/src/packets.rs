@@ -130,7 +130,7 @@ fn longer(random: &mut Random) -> Plan {
         return plan;
     }
     let mut plan = Plan::new(random, RED);
-    for older in 1..=random.within(2, 4) {
+    for older in (1..=random.within(2, 4)).rev() {
         plan.older.push((300 * older as u16, letters(random, 150)));
     }
     plan.primary = letters(random, 150);

@@ -8,6 +8,9 @@ const RED_ALONE: &str = include_str!("../../captures/ms2_red_typed1_rtponly.hex"
 const T140_WITH_STUN: &str = include_str!("../../captures/ms2_t140_typed1.hex");
 const RED_LOSSY: &[u8] = include_bytes!("../../captures/ms2_red_typed1_lossy.pcap");
 
+/// The headers of two empty older blocks, both 300 ms old.
+const TWICE_300: [u8; 8] = [0xe2, 4, 0xb0, 0, 0xe2, 4, 0xb0, 0];
+
 const TYPED: &str = "Hello, worldé€😀x\u{8}\n";
 
 /// The packets of a capture in hex, one to a line.
@@ -105,14 +108,22 @@ pub fn facts() -> Result<(), String> {
         demand(refusal == Some(12), "STUN requests are refusal 12")?;
     }
 
-    let read = read_all(&alone)?;
+    let first = independent::read(None, 98, 100, &alone[0]).err();
+    demand(alone[0][2..4] == [0xff, 0xfd], "the first number is 65,533")?;
     demand(
-        spelled(&read) == TYPED.as_bytes(),
-        "the primaries spell the text",
+        alone[0][12..20] == TWICE_300 && first == Some(22),
+        "the first packet's ages are 300 twice, refusal 22",
+    )?;
+    let read = read_all(&alone[1..])?;
+    let repeated = read[0].older().iter();
+    let repeated = repeated.flat_map(|older| read[0].block(older).iter().copied());
+    demand(
+        repeated.chain(spelled(&read)).eq(TYPED.bytes()),
+        "the second's repeats and the primaries from there on spell the text",
     )?;
     for (place, packet) in read.iter().enumerate() {
-        let sequence = 65533u16.wrapping_add(place as u16);
-        demand(packet.sequence == sequence, "sequence numbers from 65,533")?;
+        let sequence = 65534u16.wrapping_add(place as u16);
+        demand(packet.sequence == sequence, "numbers that go on from there")?;
         demand(packet.older().len() == 2, "two older blocks each")?;
     }
     repeats(&read)?;

@@ -5,6 +5,7 @@ use crate::damage;
 use crate::plan::{Plan, LONGEST, RED, T140};
 use crate::random::Random;
 use crate::{captures, shapes};
+use independent::ages;
 
 pub struct Kind {
     pub name: &'static str,
@@ -15,7 +16,7 @@ const fn kind(name: &'static str, batch: fn(&mut Random) -> Vec<Case>) -> Kind {
     Kind { name, batch }
 }
 
-pub const KINDS: [Kind; 19] = [
+pub const KINDS: [Kind; 20] = [
     kind("valid T140", valid_t140),
     kind("valid RED, 0 to 4 older blocks", valid_red),
     kind("mutated", mutated),
@@ -26,6 +27,7 @@ pub const KINDS: [Kind; 19] = [
     kind("fifth block header", shapes::fifth_header),
     kind("wrong block types", shapes::wrong_block_types),
     kind("lengths passing the end", shapes::lengths_passing_the_end),
+    kind("impossible ages", shapes::impossible_ages),
     kind("bad UTF-8 at each place", shapes::bad_utf8),
     kind("letters split between blocks", shapes::split_letters),
     kind("payload type settings", settings),
@@ -170,10 +172,14 @@ fn random_payload(random: &mut Random) -> Vec<Case> {
     let mut packet = Plan::new(random, payload_type).bytes();
     packet.truncate(12);
     packet[0] |= random.pick(&[0, 0, 0x20, 0x10, 1, 0x31]);
-    for _ in 0..random.below(6) {
-        let length = random.below(12) as u8;
-        let second = random.byte();
-        packet.extend([0xe2, second, random.pick(&[0, 4, 0xfc]), length]);
+    let count = random.below(6);
+    let ages = match count > 0 && random.once_in(8) {
+        true => ages::wrong(random, count),
+        false => ages::falling(random, count),
+    };
+    for age in ages {
+        let header = 0xe200_0000 | u32::from(age) << 10 | random.below(12) as u32;
+        packet.extend(header.to_be_bytes());
     }
     packet.push(random.pick(&[T140, T140, T140, RED, 0xe2]));
     let length = random.below(40);

@@ -2,6 +2,7 @@
 //! without reading them.
 
 use crate::random::Random;
+use independent::ages;
 use stewpigeon::lent::{Block, Packet};
 
 pub const T140: u8 = 98;
@@ -56,8 +57,8 @@ impl Plan {
     pub fn red(random: &mut Random, count: usize) -> Plan {
         let mut plan = Plan::new(random, RED);
         plan.dress(random);
-        for _ in 0..count {
-            plan.older.push((random.below(1 << 14) as u16, vec![]));
+        for age in ages::falling(random, count) {
+            plan.older.push((age, vec![]));
         }
         for place in 0..count {
             let length = size(random, plan.room().min(1023));
@@ -79,14 +80,36 @@ impl Plan {
     /// A good RED packet of small blocks in a bare header.
     pub fn small_red(random: &mut Random, count: usize) -> Plan {
         let mut plan = Plan::new(random, RED);
-        for _ in 0..count {
+        for age in ages::falling(random, count) {
             let length = random.below(7);
-            let offset = random.below(1 << 14) as u16;
-            plan.older.push((offset, random.text(length)));
+            plan.older.push((age, random.text(length)));
         }
         let length = random.below(7);
         plan.primary = random.text(length);
         plan
+    }
+
+    /// The text of the block at this place, the primary behind the last
+    /// older one.
+    pub fn block(&mut self, place: usize) -> &mut Vec<u8> {
+        match self.older.get_mut(place) {
+            Some(older) => &mut older.1,
+            None => &mut self.primary,
+        }
+    }
+
+    /// Gives the older blocks other offsets.
+    pub fn date(&mut self, ages: Vec<u16>) {
+        for (older, age) in self.older.iter_mut().zip(ages) {
+            older.0 = age;
+        }
+    }
+
+    /// Gives the older blocks, if there are any, offsets that are refused.
+    pub fn misdate(&mut self, random: &mut Random) {
+        if !self.older.is_empty() {
+            self.date(ages::wrong(random, self.older.len()));
+        }
     }
 
     /// Now and then a source list, an extension and padding.

@@ -164,6 +164,52 @@ pub fn lengths_passing_the_end(random: &mut Random) -> Vec<Case> {
     cases
 }
 
+/// Ages that do not fall to 1 or more: near the bounds, and together with
+/// every other fault that a block can have.
+pub fn impossible_ages(random: &mut Random) -> Vec<Case> {
+    let count = random.within(1, 4);
+    let mut plan = Plan::red(random, count);
+    let mut cases = vec![];
+    for _ in 0..8 {
+        let ages: Vec<u16> = (0..count)
+            .map(|_| random.pick(&[0, 1, 2, 3, 4, 16_382, 16_383]))
+            .collect();
+        let impossible = ages.contains(&0) || ages.windows(2).any(|two| two[0] <= two[1]);
+        plan.date(ages);
+        cases.push(match impossible {
+            true => Case::refused(random, plan.bytes(), 22),
+            false => Case::accepted(random, &plan),
+        });
+    }
+    let mut plan = Plan::small_red(random, count);
+    plan.misdate(random);
+    let packet = plan.bytes();
+    cases.push(Case::refused(random, packet.clone(), 22));
+    let mut other = Case::refused(random, packet.clone(), 16);
+    (other.expects, other.source) = (1, !plan.source);
+    cases.push(other);
+
+    let headers = plan.blocks() - 1;
+    cases.push(Case::refused(random, packet[..headers].to_vec(), 17));
+    let mut wrong = packet.clone();
+    wrong[headers] ^= 1;
+    cases.push(Case::refused(random, wrong, 19));
+    if count == 4 {
+        let mut fifth = packet.clone();
+        fifth[headers] = 0xe2;
+        cases.push(Case::refused(random, fifth, 18));
+    }
+    for length in plan.blocks()..packet.len() - plan.primary.len() {
+        cases.push(Case::refused(random, packet[..length].to_vec(), 20));
+    }
+    for block in 0..=count {
+        let mut wrong = plan.clone();
+        wrong.block(block).extend(random.pick(&BAD));
+        cases.push(Case::refused(random, wrong.bytes(), 22));
+    }
+    cases
+}
+
 /// Bytes that are not UTF-8 put over every place of every block.
 pub fn bad_utf8(random: &mut Random) -> Vec<Case> {
     let count = random.below(5);
@@ -195,11 +241,7 @@ pub fn bad_utf8(random: &mut Random) -> Vec<Case> {
     // A block that ends in a bad part, good blocks about it.
     for block in 0..=plan.older.len() {
         let mut wrong = plan.clone();
-        let text = match wrong.older.get_mut(block) {
-            Some(older) => &mut older.1,
-            None => &mut wrong.primary,
-        };
-        text.extend(random.pick(&BAD));
+        wrong.block(block).extend(random.pick(&BAD));
         cases.push(Case::refused(random, wrong.bytes(), 21));
     }
     cases
@@ -219,11 +261,8 @@ pub fn split_letters(random: &mut Random) -> Vec<Case> {
             for block in 0..count {
                 let mut split = plan.clone();
                 let (head, tail) = letter.as_bytes().split_at(cut);
-                split.older[block].1.extend(head);
-                let next = match split.older.get_mut(block + 1) {
-                    Some(older) => &mut older.1,
-                    None => &mut split.primary,
-                };
+                split.block(block).extend(head);
+                let next = split.block(block + 1);
                 next.splice(0..0, tail.iter().copied());
                 cases.push(Case::refused(random, split.bytes(), 21));
             }

@@ -3,6 +3,7 @@
 //! They were written from the scope paper and the RFCs alone.
 #![forbid(unsafe_code)]
 
+pub mod ages;
 pub mod block;
 pub mod channel;
 pub mod journal;
@@ -30,7 +31,7 @@ const LONGEST: usize = 1472;
 /// An older block of a RED packet, as a place in the packet.
 #[derive(Clone, Copy, Debug, Default, PartialEq, Eq)]
 pub struct Older {
-    /// The timestamp offset.
+    /// The timestamp offset: 1 or more, and above that of the block behind it.
     pub offset: u16,
     pub start: u16,
     pub length: u16,
@@ -137,6 +138,7 @@ pub fn read(expected: Option<u32>, t140: u8, red: u8, packet: &[u8]) -> Result<P
     if payload_type == red {
         read.block_headers(t140)?;
         read.place_older()?;
+        read.ages()?;
     }
     for older in read.older() {
         well_formed(read.block(older))?;
@@ -243,6 +245,19 @@ impl Packet<'_> {
         }
         if self.start > self.end {
             return Err(refusal::BLOCKS_END);
+        }
+        Ok(())
+    }
+
+    /// Each block is older than the next, and the last than the primary.
+    #[inline]
+    fn ages(&self) -> Result<(), u8> {
+        let mut newer = 0;
+        for older in self.older().iter().rev() {
+            if older.offset <= newer {
+                return Err(refusal::BLOCK_AGES);
+            }
+            newer = older.offset;
         }
         Ok(())
     }

@@ -1,8 +1,9 @@
 //! Another maker's sender. It keeps the sending rules, and is free where
-//! they say nothing: padding, source lists, extensions, offsets, the marker,
-//! the timestamp, the source, T140 packets where nothing is repeated, longer
-//! blocks, and blocks that are not UTF-8.
+//! they say nothing: padding, source lists, extensions, offsets, also such as
+//! are refused, the marker, the timestamp, the source, T140 packets where
+//! nothing is repeated, longer blocks, and blocks that are not UTF-8.
 
+use crate::ages;
 use crate::channel::Line;
 use crate::random::Random;
 use crate::record::{run, Sent};
@@ -68,10 +69,13 @@ fn packet(random: &mut Random, settings: &Settings, sent: &[Sent], source: u32) 
         packet.extend(random.bytes(4 * words));
     }
     if !plain {
-        for older in &sent[k - run..k] {
-            let offset = random.below(1 << 14) as u32;
+        let ages = match run > 0 && random.once_in(20) {
+            true => ages::wrong(random, run),
+            false => ages::falling(random, run),
+        };
+        for (older, age) in sent[k - run..k].iter().zip(ages) {
             let start = u32::from(settings.t140 | 0x80) << 24;
-            let header = start | offset << 10 | older.block.len() as u32;
+            let header = start | u32::from(age) << 10 | older.block.len() as u32;
             packet.extend(header.to_be_bytes());
         }
         packet.push(settings.t140);

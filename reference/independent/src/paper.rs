@@ -3,6 +3,9 @@
 
 use crate::{Contents, Older};
 
+mod ages;
+mod blocks;
+
 /// What an accepted packet holds, or the refusal.
 type Outcome = Result<Contents<'static>, u8>;
 
@@ -71,13 +74,8 @@ fn red(payload: &[u8]) -> Vec<u8> {
 
 /// A RED packet with one older block and a primary.
 fn one_older(older: &[u8], primary: &[u8]) -> Vec<u8> {
-    let header = [0xe2, 0, 0, older.len() as u8, 0x62];
+    let header = [0xe2, 4, 0xb0, older.len() as u8, 0x62];
     red(&[&header, older, primary].concat())
-}
-
-/// Four good older headers of empty blocks, then what follows.
-fn four_older(rest: &[u8]) -> Vec<u8> {
-    red(&[&[0xe2, 0, 0, 0].repeat(4), rest].concat())
 }
 
 const T3: [u8; 18] = [
@@ -111,12 +109,12 @@ fn line_tests() -> Vec<Case> {
         case(
             "T10 in a primary",
             one_older(b"", &last),
-            Ok(behind(const { &[older(0, 17, 0)] }, 17, 21)),
+            Ok(behind(const { &[older(300, 17, 0)] }, 17, 21)),
         ),
         case(
             "T10 in an older block",
             one_older(&last, b""),
-            Ok(behind(const { &[older(0, 17, 4)] }, 21, 21)),
+            Ok(behind(const { &[older(300, 17, 4)] }, 21, 21)),
         ),
         case(
             "1,472 bytes of T140",
@@ -231,71 +229,11 @@ fn headers() -> Vec<Case> {
     ]
 }
 
-/// The refusals of the source and the blocks, 16 to 21.
-fn blocks() -> Vec<Case> {
-    let source_7 = |name, packet, result| Case {
-        expected: Some(7),
-        ..case(name, packet, result)
-    };
-    let wrong_older = [0xe3, 0, 0, 0];
-    let split = one_older(&[0xc3], &[0xa9]);
-    vec![
-        source_7("15 before 16", packet([0x80, 0x63], &[]), Err(15)),
-        source_7("16 before 17", red(&[]), Err(16)),
-        source_7("16 before 21", t140(&[0xff]), Err(16)),
-        Case {
-            expected: Some(0x11223344),
-            ..case("T3 with its source expected", T3.to_vec(), Ok(T3_HOLDS))
-        },
-        case("RED without a payload", red(&[]), Err(17)),
-        case("no header of a primary", red(&[0xe2, 0, 0, 0]), Err(17)),
-        case("3 bytes of an older header", red(&[0xe2, 0, 0]), Err(17)),
-        case(
-            "3 bytes of a wrong older header",
-            red(&wrong_older[..3]),
-            Err(17),
-        ),
-        case(
-            "fifth header with 1 byte left",
-            four_older(&[0xe2]),
-            Err(18),
-        ),
-        case(
-            "fifth header of a wrong type",
-            four_older(&[0xe3, 0, 0, 0, 0x62]),
-            Err(18),
-        ),
-        case("no byte after four headers", four_older(&[]), Err(17)),
-        case(
-            "four older blocks",
-            four_older(&[0x62]),
-            Ok(behind(const { &[older(0, 29, 0); 4] }, 29, 29)),
-        ),
-        case("older type wrong", red(&[0xe3, 0, 0, 0, 0x62]), Err(19)),
-        case("primary type wrong", red(&[0x64]), Err(19)),
-        case(
-            "older length passes the end",
-            red(&[0xe2, 0, 0, 1, 0x62]),
-            Err(20),
-        ),
-        case(
-            "older lengths together pass the end, before 21",
-            red(&[0xe2, 0, 0, 2, 0xe2, 0, 0, 1, 0x62, 0xff, 0xff]),
-            Err(20),
-        ),
-        case(
-            "largest offset and length",
-            red(&[&[0xe2, 0xff, 0xff, 0xff, 0x62][..], &[b'a'; 1023]].concat()),
-            Ok(behind(const { &[older(16383, 17, 1023)] }, 1040, 1040)),
-        ),
-        case("letter split between two blocks", split, Err(21)),
-    ]
-}
-
 /// All cases.
 pub fn cases() -> Vec<Case> {
     let mut cases = line_tests();
     cases.extend(headers());
-    cases.extend(blocks());
+    cases.extend(blocks::cases());
+    cases.extend(ages::cases());
     cases
 }

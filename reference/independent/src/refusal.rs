@@ -42,6 +42,8 @@ pub const BLOCK_TYPE: u8 = 19;
 pub const BLOCKS_END: u8 = 20;
 /// A block is not UTF-8.
 pub const UTF8: u8 = 21;
+/// Older blocks' time offsets do not fall to 1 or more.
+pub const BLOCK_AGES: u8 = 22;
 
 /// Every number a reader can give.
-pub const ALL: [u8; 13] = [3, 10, 11, 12, 13, 14, 15, 16, 17, 18, 19, 20, 21];
+pub const ALL: [u8; 14] = [3, 10, 11, 12, 13, 14, 15, 16, 17, 18, 19, 20, 21, 22];

@@ -9,14 +9,14 @@ fn open() -> Receiver {
     Receiver::open(98, 100).unwrap()
 }
 
-/// A RED packet; every offset is 0.
+/// A RED packet; its offsets count down to 1.
 fn red(sequence: u16, older: &[&[u8]], primary: &[u8]) -> Vec<u8> {
     let mut packet = vec![0x80, 0x64];
     packet.extend(sequence.to_be_bytes());
     packet.extend([0; 4]);
     packet.extend(SOURCE);
-    for block in older {
-        packet.extend([0xe2, 0, 0, block.len() as u8]);
+    for (block, back) in older.iter().zip((1..=older.len() as u8).rev()) {
+        packet.extend([0xe2, 0, 4 * back, block.len() as u8]);
     }
     packet.push(0x62);
     packet.extend(older.concat());

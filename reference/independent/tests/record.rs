@@ -16,6 +16,7 @@ struct Met {
     late: usize,
     refused: usize,
     other_source: usize,
+    wrong_ages: usize,
     marks: usize,
     repeated: usize,
     unwanted: usize,
@@ -65,6 +66,7 @@ fn receive(settings: &Settings, line: &Line, deliveries: &[Delivery], met: &mut 
                 assert_eq!(receiver, before);
                 met.refused += 1;
                 met.other_source += usize::from(*number == 16);
+                met.wrong_ages += usize::from(*number == 22);
                 continue;
             }
             Answer::Late { distance } => {
@@ -101,7 +103,7 @@ fn receive(settings: &Settings, line: &Line, deliveries: &[Delivery], met: &mut 
     assert_eq!(record, expected(&line.sent, level, &accepted));
 }
 
-fn random_lines(level: usize, line: fn(&mut Random, &Settings) -> Line) {
+fn random_lines(level: usize, line: fn(&mut Random, &Settings) -> Line) -> Met {
     let mut met = Met::default();
     for seed in 0..LISTS {
         let mut random = Random::new(seed << 8 | level as u64);
@@ -111,6 +113,7 @@ fn random_lines(level: usize, line: fn(&mut Random, &Settings) -> Line) {
         receive(&settings, &line, &deliveries, &mut met);
     }
     met.check(level);
+    met
 }
 
 fn ours(random: &mut Random, settings: &Settings) -> Line {
@@ -124,17 +127,20 @@ fn another_makers(random: &mut Random, settings: &Settings) -> Line {
     maker::line(random, settings, count)
 }
 
+/// None of its packets is refused for its ages.
 #[test]
 fn random_lines_of_our_sender() {
     for level in 0..=4 {
-        random_lines(level, ours);
+        let met = random_lines(level, ours);
+        assert_eq!(met.wrong_ages, 0, "level {level}");
     }
 }
 
 #[test]
 fn random_lines_of_another_makers_sender() {
     for level in 0..=4 {
-        random_lines(level, another_makers);
+        let met = random_lines(level, another_makers);
+        assert_eq!(met.wrong_ages > 10, level > 0, "level {level}");
     }
 }
 

@@ -6,6 +6,7 @@ use std::fmt::{self, Display, Formatter};
 use independent::journal::{self, Break, Finish};
 use independent::random::Random;
 use independent::transcript::{text, transcript};
+use independent::{read, refusal};
 
 use crate::check::{check, Difference, Feeding};
 use crate::damage::{change, follow, spoil};
@@ -43,6 +44,7 @@ impl Met {
             ("with a late packet", counts.late > 0),
             ("with a loss", counts.lost > 0),
             ("with a refused packet", counts.refused > 0),
+            ("with a packet of impossible ages", impossible_ages(journal)),
         ] {
             if met {
                 self.add(kind);
@@ -57,7 +59,7 @@ impl Met {
     }
 }
 
-const KINDS: [&str; 15] = [
+const KINDS: [&str; 16] = [
     "whole",
     "broken by an early end",
     "broken by a kind",
@@ -69,11 +71,21 @@ const KINDS: [&str; 15] = [
     "with a late packet",
     "with a loss",
     "with a refused packet",
+    "with a packet of impossible ages",
     "fed in pieces",
     "fed without an end of input",
     "fed up to the end or the break, without an end of input",
     "fed as a file",
 ];
+
+fn impossible_ages(journal: &journal::Journal) -> bool {
+    let Some((t140, red)) = journal.opening else {
+        return false;
+    };
+    let refused = |packet: &Vec<u8>| read(None, t140, red, packet).err();
+    let mut refused = journal.packets.iter().map(refused);
+    refused.any(|number| number == Some(refusal::BLOCK_AGES))
+}
 
 /// A line for each kind.
 impl Display for Met {

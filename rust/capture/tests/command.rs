@@ -12,7 +12,7 @@ const CAPTURE: &str = concat!(
     env!("CARGO_MANIFEST_DIR"),
     "/../../reference/captures/ms2_red_typed1_lossy.pcap"
 );
-const EXPECTED: &str = "Hello, worldé€😀x\u{fffd}\u{fffd}\n\npackets 9 late 0 lost 2 refused 0\n";
+const EXPECTED: &str = "Hello, worldé€😀x\u{fffd}\u{fffd}\n\npackets 8 late 0 lost 2 refused 1\n";
 
 fn run(arguments: &[&str], input: &[u8]) -> Output {
     let mut child = Command::new(env!("CARGO_BIN_EXE_capture-to-journal"))

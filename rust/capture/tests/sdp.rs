@@ -188,7 +188,7 @@ fn command() {
     assert_eq!(output.status.code(), Some(0));
     let printed = String::from_utf8(transcript(&output.stdout)).unwrap();
     assert!(
-        printed.ends_with("\npackets 9 late 0 lost 2 refused 0\n"),
+        printed.ends_with("\npackets 8 late 0 lost 2 refused 1\n"),
         "{printed}"
     );
     // Hex lines have no ports, whatever the SDP says.

@@ -22,7 +22,8 @@ fn text(bytes: &[u8]) -> &str {
 fn packets_and_refusals() {
     let input = "# comment\n\n\
                  80e40005000003e811223344e204b001624108\n\
-                 80 62\n";
+                 80 62\n\
+                 80e4fffd0b7be89c5b8e4731e204b000e204b0006248656c6c6f\n";
     let output = inspect(&[], input);
     assert_eq!(output.status.code(), Some(0));
     let expected = "\
@@ -30,6 +31,7 @@ line 3: marker 1 sequence 5 timestamp 1000 source 11223344
     older block, sequence 4 timestamp offset 300: \"A\"
     primary: \"\\u{8}\"
 line 4: refused 10: packet under 12 bytes
+line 5: refused 22: older blocks' time offsets do not fall to 1 or more
 ";
     assert_eq!(text(&output.stdout), expected);
 }

@@ -111,7 +111,7 @@ pub struct Sender {
 #[repr(C)]
 #[derive(Clone, Copy, Debug, PartialEq, Eq)]
 pub struct Block {
-    /// The time offset in ms.
+    /// The time offset in ms: 1 or more, and above that of the block behind it.
     pub offset: u16,
     /// Where it starts in the packet.
     pub at: usize,

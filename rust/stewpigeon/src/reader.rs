@@ -5,7 +5,7 @@ use crate::{lent, Refusal};
 /// An older block of a RED packet.
 #[derive(Clone, Copy, Debug, Default, PartialEq, Eq)]
 pub struct Older<'a> {
-    /// The timestamp offset.
+    /// The timestamp offset: 1 or more, and above that of the block behind it.
     pub offset: u16,
     pub text: &'a [u8],
 }

@@ -37,10 +37,11 @@ pub enum Refusal {
     BlockType = 19,
     BlockLengths = 20,
     BlockText = 21,
+    BlockAges = 22,
 }
 
 impl Refusal {
-    pub const ALL: [Refusal; 21] = [
+    pub const ALL: [Refusal; 22] = [
         Refusal::Level,
         Refusal::Buffering,
         Refusal::PayloadTypes,
@@ -62,9 +63,10 @@ impl Refusal {
         Refusal::BlockType,
         Refusal::BlockLengths,
         Refusal::BlockText,
+        Refusal::BlockAges,
     ];
 
-    /// Its number, 1 to 21.
+    /// Its number, 1 to 22.
     pub fn number(self) -> u8 {
         self as u8
     }
@@ -99,6 +101,7 @@ impl Refusal {
             Refusal::BlockType => "a block's type is not T140",
             Refusal::BlockLengths => "older blocks' lengths pass the end",
             Refusal::BlockText => "a block is not UTF-8",
+            Refusal::BlockAges => "older blocks' time offsets do not fall to 1 or more",
         }
     }
 
@@ -119,6 +122,7 @@ impl Refusal {
             Refusal::Version => "not RTP, so drop it",
             Refusal::PayloadType => "drop it, or open with the payload types of this line",
             Refusal::Source => "drop it, or open another receiver for a new source",
+            Refusal::BlockAges => "drop it, as the next packets repeat its text",
             Refusal::Header
             | Refusal::Padding
             | Refusal::BlockHeaders

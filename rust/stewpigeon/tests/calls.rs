@@ -28,6 +28,24 @@ fn refused_packets() {
     assert_eq!(read(Some(1), 98, 100, &PACKET), Err(Refusal::Source));
 }
 
+/// The packet with its older block 0 ms old.
+fn undated() -> [u8; 19] {
+    let mut packet = PACKET;
+    packet[13..15].fill(0);
+    packet
+}
+
+#[test]
+fn older_blocks_of_impossible_ages() {
+    let mut packet = undated();
+    assert_eq!(read(None, 98, 100, &packet), Err(Refusal::BlockAges));
+    packet[18] = 0xff;
+    assert_eq!(read(None, 98, 100, &packet), Err(Refusal::BlockAges));
+    packet[15] = 3;
+    assert_eq!(read(None, 98, 100, &packet), Err(Refusal::BlockLengths));
+    assert_eq!(read(Some(1), 98, 100, &packet), Err(Refusal::Source));
+}
+
 /// A word that no field has by chance.
 const FILL: u64 = 0x9e37_79b9_7f4a_7c15;
 
@@ -37,6 +55,8 @@ fn the_answer_to_a_packet() {
     let before = answer.clone();
     assert_eq!(lent::read_into(9, 1, 98, 100, &PACKET, &mut answer), 16);
     assert_eq!(answer.bytes(), before.bytes());
+    let number = lent::read_into(0, 1, 98, 100, &undated(), &mut answer);
+    assert_eq!((number, answer.bytes()), (22, before.bytes()));
     assert_eq!(lent::read_into(0, 1, 98, 100, &PACKET, &mut answer), 0);
     let mut wanted = lent::Packet {
         marker: 1,
@@ -126,7 +146,7 @@ fn texts() {
 #[test]
 fn refusals_and_their_numbers() {
     let numbers: Vec<u8> = Refusal::ALL.into_iter().map(Refusal::number).collect();
-    assert_eq!(numbers, (1..=21).collect::<Vec<u8>>());
+    assert_eq!(numbers, (1..=22).collect::<Vec<u8>>());
     for number in 0..=255 {
         let refusal = Refusal::of(number);
         assert_eq!(refusal.is_some(), numbers.contains(&number));
@@ -136,6 +156,12 @@ fn refusals_and_their_numbers() {
     assert_eq!(
         shown,
         "refused 2: buffering time 0 or above 500 ms; open with 1 to 500 ms, 300 being usual"
+    );
+    let shown = Refusal::BlockAges.to_string();
+    assert_eq!(
+        shown,
+        "refused 22: older blocks' time offsets do not fall to 1 or more; \
+         drop it, as the next packets repeat its text"
     );
     let shown = Refusal::Rate.to_string();
     assert_eq!(

@@ -112,6 +112,30 @@ fn refusals_change_nothing() {
     assert_eq!(receiver, before);
 }
 
+/// What a packet of impossible ages held comes with the next one's repeats.
+#[test]
+fn impossible_ages() {
+    let mut sender = open(SETTINGS);
+    let mut receiver = Receiver::open(98, 100).unwrap();
+    let mut packets = vec![];
+    for (k, text) in [b"A", b"B", b"C"].into_iter().enumerate() {
+        let clock = 300 * k as u64;
+        sender.offer(clock, text).unwrap();
+        packets.push(sent(&mut sender, clock));
+    }
+    receiver.step(&packets[0]).unwrap();
+    let before = receiver.clone();
+    let second = &mut packets[1];
+    assert_eq!(read(None, 98, 100, second).unwrap().older()[0].offset, 300);
+    second[13..15].fill(0);
+    assert_eq!(receiver.step(second), Err(Refusal::BlockAges));
+    assert_eq!(receiver, before);
+    let Ok(Step::Forward { loss, text, .. }) = receiver.step(&packets[2]) else {
+        panic!("the third packet is forward");
+    };
+    assert_eq!((loss, text), (0, &b"BC"[..]));
+}
+
 #[test]
 fn the_longest_packet() {
     let mut sender = open(Settings {

@@ -19,7 +19,7 @@ that was lost, and that no later packet repeated, is missing there. Counted are:
   packets   packets that gave their text
   late      packets that came again or too late, and added nothing
   lost      the marks
-  refused   packets that were none of this line
+  refused   packets that were none of this line, or faulty
 
   --no-keepalives  leave U+FEFF out of what is printed, which some senders send
                    while nobody types; the counts stay as they are

@@ -117,6 +117,9 @@ fn packet(random: &mut Random, source: u32, expected: u16) -> Vec<u8> {
     if random.once_in(20) {
         plan.source ^= 1 << random.below(32);
     }
+    if random.once_in(12) {
+        plan.misdate(random);
+    }
     let packet = plan.bytes();
     match random.once_in(6) {
         true => mutate(random, packet),

@@ -5,6 +5,7 @@ use std::collections::{BTreeMap, BTreeSet};
 use std::fmt::{self, Display, Formatter};
 
 use crate::say;
+use independent::refusal;
 
 #[derive(Clone, Copy, Debug, PartialEq, Eq, PartialOrd, Ord)]
 pub enum Call {
@@ -50,10 +51,7 @@ impl Call {
     fn answers(self) -> Vec<Answer> {
         let (done, refused): (&[_], &[_]) = match self {
             Call::ReceiverOpen => (&["opened"], &[3]),
-            Call::Step => (
-                &["forward", "late"],
-                &[3, 10, 11, 12, 13, 14, 15, 16, 17, 18, 19, 20, 21],
-            ),
+            Call::Step => (&["forward", "late"], &refusal::ALL),
             Call::WriteMarks => (&["none", "some"], &[]),
             Call::SenderOpen => (&["opened"], &[1, 2, 3, 9]),
             Call::Offer => (&["taken"], &[1, 2, 3, 4, 5, 6, 7, 9]),

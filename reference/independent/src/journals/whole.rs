@@ -4,10 +4,17 @@ use super::{case, header, marks, open, red, t140, Case};
 use crate::recorder::Recorder;
 
 pub fn cases() -> Vec<Case> {
-    [openings(), lengths(), times(), losses(), late_and_refused()]
-        .into_iter()
-        .flatten()
-        .collect()
+    [
+        openings(),
+        lengths(),
+        times(),
+        losses(),
+        late_and_refused(),
+        ages(),
+    ]
+    .into_iter()
+    .flatten()
+    .collect()
 }
 
 const NOTHING: &str = "0 late 0 lost 0 refused 0";
@@ -195,6 +202,45 @@ fn late_and_refused() -> Vec<Case> {
             refused_first.end(),
             "A",
             "1 late 0 lost 0 refused 2",
+        ),
+    ]
+}
+
+/// Packets that are refused for their older blocks' ages. What they held comes
+/// with a later packet's repeats, or is lost; before the first accepted packet
+/// that leaves no mark.
+fn ages() -> Vec<Case> {
+    let a = t140(5, "A");
+    let mut equal = red(6, &["x", "A"], "B");
+    equal.copy_within(13..15, 17);
+    let mut zero = red(6, &["A"], "B");
+    zero[13..15].fill(0);
+    let between = |packet: &[u8], next: &[u8]| open().packet(&a).packet(packet).packet(next);
+    let first = |next: &[u8]| open().packet(&equal).packet(next).end();
+    vec![
+        case(
+            "ages-equal",
+            between(&equal, &red(7, &["A", "B"], "C")).end(),
+            "ABC",
+            "2 late 0 lost 0 refused 1",
+        ),
+        case(
+            "ages-zero",
+            between(&zero, &t140(7, "C")).end(),
+            "A\u{fffd}C",
+            "2 late 0 lost 1 refused 1",
+        ),
+        case(
+            "ages-equal-first",
+            first(&red(7, &["A", "B"], "C")),
+            "ABC",
+            "1 late 0 lost 0 refused 1",
+        ),
+        case(
+            "ages-equal-first-lost",
+            first(&t140(7, "C")),
+            "C",
+            "1 late 0 lost 0 refused 1",
         ),
     ]
 }

@@ -50,6 +50,9 @@ pub fn step(random: &mut Random, tally: &mut Tally) -> Result<(), String> {
     if !random.once_in(8) {
         before.source = plan.source;
     }
+    if random.once_in(12) {
+        plan.misdate(random);
+    }
     if random.once_in(2) {
         plan.sequence = before.expected.wrapping_add(random.below(8) as u16);
     }

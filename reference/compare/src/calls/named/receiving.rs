@@ -6,7 +6,7 @@ use crate::captures;
 use independent::{paper, read};
 use stewpigeon::lent;
 
-pub const CASES: [Case; 18] = [
+pub const CASES: [Case; 19] = [
     ("T1: no bytes", t1),
     ("T2: 80 62 and ten zeros", t2),
     ("T3, T4: the paper's packet, and again", t3_t4),
@@ -22,6 +22,7 @@ pub const CASES: [Case; 18] = [
     ("every reader's case on a fresh receiver", all_of_the_paper),
     ("a refused opening, and the zero receiver", zero_receiver),
     ("another source: 16", other_source),
+    ("older blocks of impossible ages: 22", impossible_ages),
     ("every distance, 0 to 4 older blocks", every_distance),
     ("marks into 0 to 10 bytes", marks),
     ("the captures", captured),
@@ -41,13 +42,13 @@ fn fresh(given: &mut Given<'_>, packet: &[u8]) -> Result<Stepped, String> {
     step(given, &mut pair, packet)
 }
 
-/// A RED packet; every offset is 0.
+/// A RED packet; its offsets count down to 1.
 fn red(sequence: u16, older: &[&[u8]], primary: &[u8]) -> Vec<u8> {
     let mut packet = vec![0x80, 0x64];
     packet.extend(sequence.to_be_bytes());
     packet.extend([0, 0, 0, 0, 0x11, 0x22, 0x33, 0x44]);
-    for block in older {
-        packet.extend([0xe2, 0, 0, block.len() as u8]);
+    for (block, back) in older.iter().zip((1..=older.len() as u8).rev()) {
+        packet.extend([0xe2, 0, 4 * back, block.len() as u8]);
     }
     packet.push(0x62);
     packet.extend(older.concat());
@@ -205,6 +206,35 @@ fn other_source(given: &mut Given<'_>) -> Result<(), String> {
         same(step(given, &mut pair, &packet)?, Err(16))?;
     }
     Ok(())
+}
+
+/// The receiver stays where it is, fresh or not, and what such a packet held
+/// comes with the next one's repeats.
+fn impossible_ages(given: &mut Given<'_>) -> Result<(), String> {
+    let mut equal = red(6, &[b"f", b"g"], b"h");
+    equal.copy_within(13..15, 17);
+    let mut bad_text = equal.clone();
+    *bad_text.last_mut().expect("a primary") = 0xff;
+    let mut passing = equal.clone();
+    passing[15] = 3;
+    let mut other = equal.clone();
+    other[11] ^= 1;
+    let mut fresh = open(given)?;
+    let mut heard = expecting(given, 6)?;
+    for (pair, source) in [(&mut fresh, 22), (&mut heard, 16)] {
+        let before = pair.record();
+        for (packet, due) in [
+            (&equal, 22),
+            (&bad_text, 22),
+            (&passing, 20),
+            (&other, source),
+        ] {
+            same(step(given, pair, packet)?, Err(due))?;
+            same(pair.record(), before)?;
+        }
+    }
+    let seen = seen(given, &mut heard, &red(7, &[b"g", b"h"], b"i"))?;
+    same(seen, Ok((0, 1, b"hi".to_vec(), Some(8))))
 }
 
 /// Each receiver is moved by the packet, so each distance has its own.
