@@ -9,7 +9,7 @@ pub by-test : {A : Type 0} (P : A → Type 0) (b : Bool) {x y : A} → (b ≡ tr
 by-test P true f g = f refl
 by-test P false f g = g refl
 
--- a test is what it cannot fail to be
+-- a test that cannot be one value is the other
 pub surely : (b : Bool) → (b ≡ false → ⊥) → b ≡ true
 surely true f = refl
 surely false f = absurd (f refl)

@@ -60,7 +60,7 @@ falls-zeros (n ∷ ns) m = rw (first ns m, falls-zeros ns m)
     first [] m = none m
     first (n ∷ ns) m = refl
 
--- the ages of all headers, and of those that count
+-- the ages of all headers
 abbrev pub ages : List code.Head → List ℕ
 ages heads = map (λ h. h .offset) (map seenHead heads)
 

@@ -1,4 +1,4 @@
--- 01's "Reading a packet": the refusal that a packet meets first, or what it holds.
+-- 01's "Reading a packet", with 02's 22: the refusal that a packet meets first, or what it holds.
 use Prim.Native.Nat.{ℕ, suc, _-_}
 use mathlib.Core.List.{List, [], _∷_}
 use mathlib.Core.Bool.{Bool, cond, not}
@@ -48,6 +48,7 @@ content p hs s = record {
   primary = primaryOf hs s;
 }
 
+-- "refusal 22, after 20 and before 21" (02, request 2)
 abbrev pub blockChecks : List Head → List ℕ → List Check
 blockChecks hs s =
     ltb (length s) (total hs) gives 20

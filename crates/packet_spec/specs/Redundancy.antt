@@ -46,7 +46,7 @@ abbrev pub falling : List ℕ → Bool
 falling [] = true
 falling (n ∷ ns) = ltb (getD ns 0 0) n && falling ns
 
--- "Older blocks' offsets must fall strictly and end at 1 or more" (02, request 2): the primary's is 0
+-- "Older blocks' offsets must fall strictly and end at 1 or more" (02, request 2); the primary's counts as 0
 abbrev pub agesFall : List Head → Bool
 agesFall hs = falling (map (λ h. h .offset) hs)
 

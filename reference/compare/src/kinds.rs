@@ -5,7 +5,7 @@ use crate::damage;
 use crate::plan::{Plan, LONGEST, RED, T140};
 use crate::random::Random;
 use crate::{captures, shapes};
-use independent::ages;
+use independent::offsets;
 
 pub struct Kind {
     pub name: &'static str,
@@ -174,8 +174,8 @@ fn random_payload(random: &mut Random) -> Vec<Case> {
     packet[0] |= random.pick(&[0, 0, 0x20, 0x10, 1, 0x31]);
     let count = random.below(6);
     let ages = match count > 0 && random.once_in(8) {
-        true => ages::wrong(random, count),
-        false => ages::falling(random, count),
+        true => offsets::wrong(random, count),
+        false => offsets::falling(random, count),
     };
     for age in ages {
         let header = 0xe200_0000 | u32::from(age) << 10 | random.below(12) as u32;

@@ -2,7 +2,7 @@
 //! without reading them.
 
 use crate::random::Random;
-use independent::ages;
+use independent::offsets;
 use stewpigeon::lent::{Block, Packet};
 
 pub const T140: u8 = 98;
@@ -57,7 +57,7 @@ impl Plan {
     pub fn red(random: &mut Random, count: usize) -> Plan {
         let mut plan = Plan::new(random, RED);
         plan.dress(random);
-        for age in ages::falling(random, count) {
+        for age in offsets::falling(random, count) {
             plan.older.push((age, vec![]));
         }
         for place in 0..count {
@@ -80,7 +80,7 @@ impl Plan {
     /// A good RED packet of small blocks in a bare header.
     pub fn small_red(random: &mut Random, count: usize) -> Plan {
         let mut plan = Plan::new(random, RED);
-        for age in ages::falling(random, count) {
+        for age in offsets::falling(random, count) {
             let length = random.below(7);
             plan.older.push((age, random.text(length)));
         }
@@ -108,7 +108,7 @@ impl Plan {
     /// Gives the older blocks, if there are any, offsets that are refused.
     pub fn misdate(&mut self, random: &mut Random) {
         if !self.older.is_empty() {
-            self.date(ages::wrong(random, self.older.len()));
+            self.date(offsets::wrong(random, self.older.len()));
         }
     }
 

@@ -1,14 +1,14 @@
 //! A second reader, receiver and sender of RTP text packets (RFC 4103) and a
 //! second journal reader and transcript, to hold the proved ones against.
-//! They were written from the scope paper and the RFCs alone.
+//! They were written from the buyer's papers and the RFCs alone.
 #![forbid(unsafe_code)]
 
-pub mod ages;
 pub mod block;
 pub mod channel;
 pub mod journal;
 pub mod journals;
 pub mod maker;
+pub mod offsets;
 pub mod paper;
 pub mod random;
 pub mod receiver;

@@ -3,8 +3,8 @@
 //! are refused, the marker, the timestamp, the source, T140 packets where
 //! nothing is repeated, longer blocks, and blocks that are not UTF-8.
 
-use crate::ages;
 use crate::channel::Line;
+use crate::offsets;
 use crate::random::Random;
 use crate::record::{run, Sent};
 use crate::sender::Settings;
@@ -70,8 +70,8 @@ fn packet(random: &mut Random, settings: &Settings, sent: &[Sent], source: u32) 
     }
     if !plain {
         let ages = match run > 0 && random.once_in(20) {
-            true => ages::wrong(random, run),
-            false => ages::falling(random, run),
+            true => offsets::wrong(random, run),
+            false => offsets::falling(random, run),
         };
         for (older, age) in sent[k - run..k].iter().zip(ages) {
             let start = u32::from(settings.t140 | 0x80) << 24;

@@ -2,7 +2,7 @@
 
 use independent::random::Random;
 use independent::receiver::{Answer, Receiver};
-use independent::{ages, read, refusal};
+use independent::{offsets, read, refusal};
 
 /// A RED packet with older blocks of these offsets, each an `a`, and the
 /// primary `b`.
@@ -30,10 +30,10 @@ fn answer(offsets: &[u16]) -> Option<u8> {
 fn every_list() {
     let some = [0, 1, 2, 3, 4, 300, 16_382, 16_383];
     let mut lists = vec![vec![]];
+    assert_eq!(answer(&[]), None);
     for _ in 0..4 {
         let mut longer = vec![];
         for list in &lists {
-            assert!(list.len() < 4);
             longer.extend(some.map(|offset| [&list[..], &[offset]].concat()));
         }
         for list in &longer {
@@ -52,11 +52,11 @@ fn every_list() {
 #[test]
 fn random_offsets_are_what_they_are_said_to_be() {
     let mut random = Random::new(22);
-    assert_eq!(ages::falling(&mut random, 0), [0; 0]);
+    assert_eq!(offsets::falling(&mut random, 0), [0; 0]);
     for round in 0..20_000 {
         let count = 1 + round % 4;
-        let falling = ages::falling(&mut random, count);
-        let wrong = ages::wrong(&mut random, count);
+        let falling = offsets::falling(&mut random, count);
+        let wrong = offsets::wrong(&mut random, count);
         assert_eq!((falling.len(), wrong.len()), (count, count));
         assert_eq!(answer(&falling), None, "{falling:?}");
         assert_eq!(answer(&wrong), Some(22), "{wrong:?}");

@@ -19,7 +19,7 @@ fn printed(capture: &[u8], options: &Options) -> String {
 }
 
 /// The first RED packet is refused for its ages, and its text comes with the
-/// next one's repeats.
+/// next ones' repeats.
 #[test]
 fn typed_text() {
     let options = Options::default();

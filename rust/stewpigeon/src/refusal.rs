@@ -122,7 +122,9 @@ impl Refusal {
             Refusal::Version => "not RTP, so drop it",
             Refusal::PayloadType => "drop it, or open with the payload types of this line",
             Refusal::Source => "drop it, or open another receiver for a new source",
-            Refusal::BlockAges => "drop it, as the next packets repeat its text",
+            Refusal::BlockAges => {
+                "drop it; if more than a first packet is refused so, have its sender mended"
+            }
             Refusal::Header
             | Refusal::Padding
             | Refusal::BlockHeaders

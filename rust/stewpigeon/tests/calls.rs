@@ -161,7 +161,7 @@ fn refusals_and_their_numbers() {
     assert_eq!(
         shown,
         "refused 22: older blocks' time offsets do not fall to 1 or more; \
-         drop it, as the next packets repeat its text"
+         drop it; if more than a first packet is refused so, have its sender mended"
     );
     let shown = Refusal::Rate.to_string();
     assert_eq!(

@@ -24,7 +24,7 @@ seenHeads count hs = take count (map seenHead hs)
 abbrev pub noHead : code.Head
 noHead = record { offset = 0; len = 0 }
 
--- the others are zeros
+-- those behind the count are zeros
 abbrev pub ZerosBehind : ℕ → List code.Head → Type 0
 ZerosBehind count hs = map seenHead hs ≡ filled (seenHead noHead) level (seenHeads count hs)
 

@@ -49,8 +49,8 @@ primary-is c = ap (λ (b : Blocks). b .primary) (c .place .ensures)
 fits : (c : tie.Else1) → total (hs (start (c .before))) ≤ length (behind (start (c .before)))
 fits c = omega (arith, length-behind (start (c .before)), primary-is (c .before))
 
-falls : (c : tie.Else2) → agesFall (hs (start (c .before .before))) ≡ true
-falls c = sym (c .before .before .before .fall .ensures) ∙ not-false (c .before .before .before .fall .result) (c .if2 .left)
+ages-pass : (c : tie.Else2) → agesFall (hs (start (c .before .before))) ≡ true
+ages-pass c = sym (c .before .before .before .fall .ensures) ∙ not-false (c .before .before .before .fall .result) (c .if2 .left)
 
 fall-requires : tie.Need-fall-requires
 fall-requires c κs = (search needs, c .before .pre .3)
@@ -94,7 +94,7 @@ returns-3 c =
     let q = c .before .before .before .before in
     let s = start (q .before .before .before) in
     let t = bad-text (areText (hs s) (behind s)) (c .before .before .refusal .given .0 .0) (sym (q .check .ensures) ∙ c .before .before .refusal .given .1) in
-    c .refused3 .ensures ∙ ap (λ (r : Refusal). refusedBlocks (number r)) (t .1) ∙ sym (gives-21 refusedBlocks (hs s) (behind s) (accepted s) (fits (q .before .before)) (falls (q .before)) (t .0))
+    c .refused3 .ensures ∙ ap (λ (r : Refusal). refusedBlocks (number r)) (t .1) ∙ sym (gives-21 refusedBlocks (hs s) (behind s) (accepted s) (fits (q .before .before)) (ages-pass (q .before)) (t .0))
 
 returns-4 : tie.Need-returns-4
 returns-4 c =
@@ -107,7 +107,7 @@ returns-4 c =
     let t : areText (hs s) (behind s) ≡ true = good-text (areText (hs s) (behind s)) (sym (q .check .ensures) ∙ c .enum-told .given .1) in
     ap blocksSeen (p .place .ensures)
     ∙ ap (λ (k : ℕ). record { number = 0; count = k; older = filled none level (headPlaces (a .first) (hs s)); primary = a .first + total (hs s) }) (sym n)
-    ∙ text-placed (now (a .packet)) (a .first) (a .end) (hs s) (search needs) (search needs) (omega arith) (falls (q .before)) t
+    ∙ text-placed (now (a .packet)) (a .first) (a .end) (hs s) (search needs) (search needs) (omega arith) (ages-pass (q .before)) t
 
 pub read-blocks-spec : {M : Type 1} → statement M
 read-blocks-spec =
