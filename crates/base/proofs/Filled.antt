@@ -1,10 +1,10 @@
 -- Laws of lists as arrays.
-use Prim.Native.Nat.{ℕ, zero, suc, _+_, _-_, _<_}
-use mathlib.Core.Path.{_≡_, _∙_, refl, ap, sym}
-use mathlib.Core.List.{List, [], _∷_, _++_, map, map-append, append-assoc, append-nil}
+use Prim.Native.Nat.{ℕ, suc, _+_, _-_, _<_}
+use mathlib.Core.Path.{_≡_, _∙_, ap, sym}
+use mathlib.Core.List.{List, [], _∷_, _++_, append-assoc, append-nil}
 use native.Mathlib.Omega.{arith}
 use native.Mathlib.Numerals.{add-one}
-use lib.ListN.{length, set, getD, take, replicate, length-append, length-map}
+use lib.ListN.{length, set, getD, take, replicate, length-append}
 use lib.Seq.{set-append-seam, take-append-seam, take-suc, length-take-le}
 use Rattle.base.specs.Arrays.{filled}
 
@@ -33,12 +33,3 @@ filled-behind {A} z n x l kept i d h k e =
     ∙ ap (λ (j : ℕ). set (filled z n front) j y) (sym size)
     ∙ filled-more z n front y (omega arith)
     ∙ ap (filled z n) f
-
-map-replicate : {A B : Type 0} (f : A → B) (n : ℕ) (z : A) → map f (replicate n z) ≡ replicate n (f z)
-map-replicate f zero z = refl
-map-replicate {A} {B} f (suc n) z = ap (λ (l : List B). f z ∷ l) (map-replicate f n z)
-
-pub map-filled : {A B : Type 0} (f : A → B) (z : A) (n : ℕ) (xs : List A) → map f (filled z n xs) ≡ filled (f z) n (map f xs)
-map-filled f z n xs =
-    map-append f xs (replicate (n - length xs) z)
-    ∙ ap (λ l. map f xs ++ l) (map-replicate f (n - length xs) z ∙ ap (λ (k : ℕ). replicate (n - k) (f z)) (sym (length-map xs f)))

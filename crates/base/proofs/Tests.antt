@@ -9,15 +9,6 @@ pub by-test : {A : Type 0} (P : A → Type 0) (b : Bool) {x y : A} → (b ≡ tr
 by-test P true f g = f refl
 by-test P false f g = g refl
 
--- a test that cannot be one value is the other
-pub surely : (b : Bool) → (b ≡ false → ⊥) → b ≡ true
-surely true f = refl
-surely false f = absurd (f refl)
-
-pub otherwise : (b : Bool) → (b ≡ true → ⊥) → b ≡ false
-otherwise true f = absurd (f refl)
-otherwise false f = refl
-
 pub and-false : (t : Bool) → (t && false) ≡ false
 and-false true = refl
 and-false false = refl

@@ -11,11 +11,10 @@ use borrow.Author.Tests.{ltb-false}
 use Rattle.packet.specs.declared.Outcome.the-variants.{Accepted, Refused}
 use Rattle.packet.specs.declared.Refusal.{Refusal}
 use Rattle.block_headers.specs.declared.Headers.{Headers}
-use Rattle.base.specs.Arrays.{filled}
 use Rattle.packet_spec.specs.Limits.{level}
 use Rattle.packet_spec.specs.Redundancy.{Heads, heads, bad, headers}
 use Rattle.packet.specs.Refusal.{number, outcomeNumber}
-use Rattle.block_headers.specs.internal.Seen.{HeadersSeen, seenHead, seenHeads, noHead, ZerosBehind, headersSeen, seenBefore, headsWithin, headersOf}
+use Rattle.block_headers.specs.internal.Seen.{HeadersSeen, seenHead, seenHeads, noHead, headersSeen, seenBefore, headsWithin, headersOf}
 use Rattle.base.proofs.Filled.{take-filled}
 use Rattle.base.proofs.Slices.{slice-end}
 use Rattle.base.proofs.Tests.{by-test, or-left, or-right}
@@ -55,13 +54,11 @@ module _ (plain : Bool) (t140 : ℕ) (p : List ℕ) (from end : ℕ) where
 
     pub accepted-told : r .outcome ≡ Accepted
         → (headsWithin plain t140 p from end ≡ heads (seenHeads (r .count) (r .heads)) (slice (r .first) end p)) × (r .count ≤ level) × (r .first ≤ end) × (end ≤ length p)
-        × ZerosBehind (r .count) (r .heads)
     unfolding headersOf
     accepted-told o = go (headsWithin plain t140 p from end) lie told
       where
         go : (x : Heads) → Lie p end x → headersSeen r ≡ seenBefore end x
             → (x ≡ heads (seenHeads (r .count) (r .heads)) (slice (r .first) end p)) × (r .count ≤ level) × (r .first ≤ end) × (end ≤ length p)
-            × ZerosBehind (r .count) (r .heads)
         go (bad n) l e =
             let z : n ≡ 0 = sym (ap (λ (y : HeadersSeen). y .number) e) ∙ ap outcomeNumber o in
             absurd (omega arith)
@@ -70,4 +67,4 @@ module _ (plain : Bool) (t140 : ℕ) (p : List ℕ) (from end : ℕ) where
             let f : r .first ≡ end - length s = ap (λ (y : HeadersSeen). y .first) e in
             let a : seenHeads (r .count) (r .heads) ≡ hs = (λ i. take (e i .count) (e i .heads)) ∙ take-filled (seenHead noHead) level hs in
             let b : slice (r .first) end p ≡ s = ap (λ (j : ℕ). slice j end p) f ∙ l .2 in
-            (λ i. heads (sym a i) (sym b i), omega (arith, l .0), omega arith, l .1, ap (λ (y : HeadersSeen). y .heads) e ∙ ap (filled (seenHead noHead) level) (sym a))
+            (λ i. heads (sym a i) (sym b i), omega (arith, l .0), omega arith, l .1)

@@ -1,92 +1,52 @@
--- The walk over ages counts the places where they fall; there are as many as ages exactly where all fall.
-use Prim.Native.Nat.{ℕ, zero, suc, _+_, _-_, _<_, _≤_}
-use mathlib.Core.Path.{_≡_, _∙_, refl, ap, sym}
-use mathlib.Core.List.{List, [], _∷_, _++_, map}
-use mathlib.Core.Bool.{Bool, true, false, _&&_}
-use native.Mathlib.Nat.{zero-add}
+-- The walk over ages, newest first.
+use Prim.Native.Nat.{ℕ, suc, _<_, _≤_}
+use mathlib.Core.Path.{_≡_, _∙_, ap, sym}
+use mathlib.Core.List.{List, [], map}
+use mathlib.Core.Bool.{true, false, _&&_}
 use native.Mathlib.Omega.{arith}
-use lib.Dec.{ltb, eqb}
-use lib.ListN.{length, getD, drop, replicate, length-map}
-use lib.Seq.{drop-cons, length-take-le}
-use borrow.Author.Tests.{le-ltb, eq-eqb, ne-eqb, eqb-true, eqb-false}
-use Rattle.base.specs.Arrays.{filled}
-use Rattle.base.specs.Flags.{bit}
+use lib.Dec.{ltb}
+use lib.ListN.{length, getD, drop, length-map}
+use lib.Seq.{drop-cons, drop-length, getD-take, length-take-le}
+use borrow.Author.Tests.{lt-ltb, le-ltb}
 use Rattle.block_headers.specs.declared.Head as code
-use Rattle.packet_spec.specs.Limits.{level}
-use Rattle.packet_spec.specs.Redundancy.{falling, agesFall}
-use Rattle.block_headers.specs.internal.Seen.{seenHead, seenHeads, noHead, ZerosBehind}
-use Rattle.base.proofs.Filled.{map-filled}
-use Rattle.base.proofs.Maps.{getD-map}
+use Rattle.packet_spec.specs.Redundancy.{falling}
+use Rattle.block_headers.specs.internal.Seen.{seenHead, seenHeads, noHead}
+use Rattle.base.proofs.Maps.{getD-map, getD-map-inside}
+use Rattle.packet_spec.proofs.Falling.{falling-at, not-falling}
 
--- at how many places numbers fall: where one is above the next, the last above 0
-abbrev pub falls : List ℕ → ℕ
-falls [] = 0
-falls (n ∷ ns) = bit (ltb (getD ns 0 0) n) + falls ns
+-- the ages of the first `count`
+abbrev pub ages : ℕ → List code.Head → List ℕ
+ages count heads = map (λ h. h .offset) (seenHeads count heads)
 
-bit-small : (b : Bool) → bit b ≤ 1
-bit-small true = omega arith
-bit-small false = omega arith
+module _ (count : ℕ) (heads : List code.Head) (few : count ≤ length heads) where
+  size : length (seenHeads count heads) ≡ count
+  size = let m : length (map seenHead heads) ≡ length heads = length-map heads seenHead in length-take-le count (map seenHead heads) (omega arith)
 
-pub falls-few : (ns : List ℕ) → falls ns ≤ length ns
-falls-few [] = omega arith
-falls-few (n ∷ ns) = omega (arith, bit-small (ltb (getD ns 0 0) n), falls-few ns)
+  many : length (ages count heads) ≡ count
+  many = length-map (seenHeads count heads) (λ h. h .offset) ∙ size
 
-one-more : (x y : ℕ) → eqb (1 + x) (suc y) ≡ eqb x y
-one-more x y = go (eqb x y) refl
-  where
-    go : (b : Bool) → eqb x y ≡ b → eqb (1 + x) (suc y) ≡ b
-    go true e = let q = eqb-true x y e in eq-eqb (1 + x) (suc y) (omega arith)
-    go false e = ne-eqb (1 + x) (suc y) (λ q. eqb-false x y e (omega arith))
+  -- behind the last there is none
+  pub past : drop count (ages count heads) ≡ []
+  past = let n : count ≡ length (ages count heads) = omega (arith, many) in ap (λ (k : ℕ). drop k (ages count heads)) n ∙ drop-length (ages count heads)
 
-all-fall : (ns : List ℕ) → eqb (falls ns) (length ns) ≡ falling ns
-all-fall [] = refl
-all-fall (n ∷ ns) = go (ltb (getD ns 0 0) n) (all-fall ns)
-  where
-    go : (b : Bool) → eqb (falls ns) (length ns) ≡ falling ns → eqb (bit b + falls ns) (suc (length ns)) ≡ (b && falling ns)
-    go true e = one-more (falls ns) (length ns) ∙ e
-    go false e = ne-eqb (0 + falls ns) (suc (length ns)) (λ q. absurd (omega (arith, falls-few ns)))
+  module _ (k newer : ℕ) (h : suc k ≤ count) (next : newer ≡ getD (drop (suc k) (ages count heads)) 0 0) where
+    abbrev age : ℕ
+    age = getD heads k noHead .offset
 
--- zeros behind them fall nowhere
-falls-zeros : (ns : List ℕ) (m : ℕ) → falls (ns ++ replicate m 0) ≡ falls ns
-falls-zeros [] zero = refl
-falls-zeros [] (suc m) = rw (le-ltb (getD (replicate m 0) 0 0) 0 (omega arith)) (zero-add (falls (replicate m 0)) ∙ falls-zeros [] m)
-falls-zeros (n ∷ ns) m = rw (first ns m, falls-zeros ns m)
-  where
-    none : (m : ℕ) → _≡_ {A = ℕ} (getD (replicate m 0) 0 0) 0
-    none zero = refl
-    none (suc m) = refl
+    age-is : getD (ages count heads) k 0 ≡ age
+    age-is =
+        let s = size in
+        getD-map-inside (λ h. h .offset) (seenHeads count heads) k (seenHead noHead) 0 (omega arith)
+        ∙ ap (λ h. h .offset) (getD-take count (map seenHead heads) k (seenHead noHead) h ∙ getD-map seenHead heads k noHead)
 
-    first : (ns : List ℕ) (m : ℕ) → getD (ns ++ replicate m 0) 0 0 ≡ getD ns 0 0
-    first [] m = none m
-    first (n ∷ ns) m = refl
+    step : falling (drop k (ages count heads)) ≡ (ltb newer age && falling (drop (suc k) (ages count heads)))
+    step = let m = many in falling-at (ages count heads) k (omega arith) ∙ rw (age-is, next)
 
--- the ages of all headers
-abbrev pub ages : List code.Head → List ℕ
-ages heads = map (λ h. h .offset) (map seenHead heads)
+    pub stops : age ≤ newer → falling (ages count heads) ≡ false
+    stops g = not-falling k (ages count heads) (step ∙ rw (le-ltb newer age g))
 
-pub age-is : (heads : List code.Head) (k : ℕ) → getD (ages heads) k 0 ≡ getD heads k noHead .offset
-age-is heads k = getD-map (λ h. h .offset) (map seenHead heads) k (seenHead noHead) ∙ ap (λ h. h .offset) (getD-map seenHead heads k noHead)
-
-pub many : (heads : List code.Head) → length (ages heads) ≡ length heads
-many heads = length-map (map seenHead heads) (λ h. h .offset) ∙ length-map heads seenHead
-
--- one more, in front
-pub falls-at : (heads : List code.Head) (k : ℕ) → k < length heads
-    → falls (drop k (ages heads)) ≡ bit (ltb (getD (drop (suc k) (ages heads)) 0 0) (getD heads k noHead .offset)) + falls (drop (suc k) (ages heads))
-falls-at heads k h = let m = many heads in ap falls (drop-cons (ages heads) k 0 (omega arith)) ∙ rw (age-is heads k)
-
-pub first-is : (heads : List code.Head) (k : ℕ) → k < length heads → getD (drop k (ages heads)) 0 0 ≡ getD heads k noHead .offset
-first-is heads k h = let m = many heads in ap (λ (l : List ℕ). getD l 0 0) (drop-cons (ages heads) k 0 (omega arith)) ∙ age-is heads k
-
-pub counted : (count : ℕ) (heads : List code.Head) → count ≤ length heads → ZerosBehind count heads
-    → eqb (falls (ages heads)) count ≡ agesFall (seenHeads count heads)
-counted count heads few zeros =
-    let hs = seenHeads count heads in
-    let ns = map (λ h. h .offset) hs in
-    let a : ages heads ≡ filled 0 level ns = ap (map (λ h. h .offset)) zeros ∙ map-filled (λ h. h .offset) (seenHead noHead) level hs in
-    let m : length (map seenHead heads) ≡ length heads = length-map heads seenHead in
-    let n : count ≡ length ns = sym (length-map hs (λ h. h .offset) ∙ length-take-le count (map seenHead heads) (omega arith)) in
-    ap (λ (l : List ℕ). eqb (falls l) count) a
-    ∙ ap (λ (k : ℕ). eqb k count) (falls-zeros ns (level - length ns))
-    ∙ ap (eqb (falls ns)) n
-    ∙ all-fall ns
+    pub goes-on : newer < age → falling (drop (suc k) (ages count heads)) ≡ true
+        → (age ≡ getD (drop k (ages count heads)) 0 0) × (falling (drop k (ages count heads)) ≡ true)
+    goes-on g e =
+        let m = many in
+        (sym (ap (λ (l : List ℕ). getD l 0 0) (drop-cons (ages count heads) k 0 (omega arith)) ∙ age-is), step ∙ rw (lt-ltb newer age g, e))

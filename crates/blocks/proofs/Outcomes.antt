@@ -1,17 +1,30 @@
--- Which case an outcome is.
-use Prim.Native.Nat.{ℕ}
+-- What the judgement of the blocks leads to: 01's and 02's checks.
+use Prim.Native.Nat.{ℕ, _≤_}
 use mathlib.Core.Path.{_≡_, refl}
-use mathlib.Core.Bool.{Bool, true, false, cond}
-use native.Mathlib.Omega.{arith}
+use mathlib.Core.List.{List}
+use mathlib.Core.Bool.{Bool, true, false, cond, not}
+use lib.ListN.{length}
+use borrow.Author.Tests.{le-ltb}
+use Rattle.packet.specs.declared.Outcome.{Outcome}
 use Rattle.packet.specs.declared.Outcome.the-variants.{Accepted, Refused}
-use Rattle.packet.specs.declared.Refusal.{Refusal}
-use Rattle.packet.specs.declared.Refusal.the-variants.{BlockText}
+use Rattle.packet.specs.declared.Refusal.the-variants.{BlockText, BlockAges}
+use Rattle.base.specs.Checks.{checked}
+use Rattle.packet_spec.specs.Redundancy.{Head, total, agesFall, areText}
+use Rattle.packet_spec.specs.Reading.{blockChecks}
+use Rattle.packet.specs.Refusal.{number}
+use Rattle.blocks.specs.internal.Judging.{judged}
 
--- what the check of the text answers
-pub bad-text : (b : Bool) (r : Refusal) → cond b Accepted (Refused BlockText) ≡ Refused r → (b ≡ false) × (r ≡ BlockText)
-bad-text true r e = absurd (let z : _≡_ {A = ℕ} 0 1 = cc in omega arith)
-bad-text false r e = (refl, cc)
+module _ {A : Type 0} (refuse : ℕ → A) (x : A) where
+  -- what an outcome leads to: its refusal, or what is accepted
+  abbrev pub led : Outcome → A
+  led Accepted = x
+  led (Refused r) = refuse (number r)
 
-pub good-text : (b : Bool) → cond b Accepted (Refused BlockText) ≡ Accepted → b ≡ true
-good-text true e = refl
-good-text false e = absurd (let z : _≡_ {A = ℕ} 0 1 = cc in omega arith)
+  both : (ages text : Bool)
+      → cond (not ages) (refuse 22) (cond (not text) (refuse 21) x) ≡ led (cond ages (cond text Accepted (Refused BlockText)) (Refused BlockAges))
+  both true true = refl
+  both true false = refl
+  both false text = refl
+
+  pub judged-leads : (hs : List Head) (s : List ℕ) → total hs ≤ length s → checked refuse (blockChecks hs s) x ≡ led (judged hs s)
+  judged-leads hs s fit = rw (le-ltb (length s) (total hs) fit) (both (agesFall hs) (areText hs s))

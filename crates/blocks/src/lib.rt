@@ -1,5 +1,5 @@
 // The blocks of a payload (RFC 2198, section 3): where they lie, and whether their ages fall and they are text.
-mod ages;
+mod judging;
 mod placing;
 
 ghost use mathlib.Core.Path.{_≡_};
@@ -9,7 +9,7 @@ ghost use lib.Seq.{slice};
 ghost use Rattle.packet_spec.specs.Limits.{level};
 ghost use Rattle.packet_spec.specs.Redundancy as Heads;
 ghost use Rattle.packet.specs.Refusal.{number};
-ghost use Rattle.block_headers.specs.internal.Seen.{seenHeads, ZerosBehind};
+ghost use Rattle.block_headers.specs.internal.Seen.{seenHeads};
 ghost use Rattle.blocks.specs.internal.Seen.{blocksSeen, refusedBlocks, seenBehind, blocksSeenAt};
 use block_headers::Head;
 use packet::Older;
@@ -49,19 +49,15 @@ fn read_blocks(
     heads: [Head; Packet::LEVEL],
     end: usize,
 ) -> Blocks
-    requires { ⌜ (count ≤ level) × (first ≤ end) × (end ≤ length (now packet)) × ZerosBehind count heads ⌝ }
+    requires { ⌜ (count ≤ level) × (first ≤ end) × (end ≤ length (now packet)) ⌝ }
     ensures { λ r. ⌜ blocksSeen r ≡ seenBehind end (Heads.heads (seenHeads count heads) (slice first end (now (packet .entry)))) ⌝ }
 {
-    let fall = ages::fall(count, heads);
     let placed = placing::place(first, count, heads);
     let primary = placed.primary;
     if end < primary {
         return refused(Refusal::BlockLengths);
     }
-    if !fall {
-        return refused(Refusal::BlockAges);
-    }
-    match placing::check(packet, first, count, heads, end) {
+    match judging::judge(packet, first, count, heads, end) {
         Outcome::Refused(refusal) => refused(refusal),
         Outcome::Accepted => placed,
     }

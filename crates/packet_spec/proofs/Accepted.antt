@@ -3,6 +3,7 @@ use Prim.Native.Nat.{ℕ, zero, suc, _+_, _-_, _≤_}
 use mathlib.Core.Path.{_≡_, _∙_, refl, sym}
 use mathlib.Core.List.{List, [], _∷_, _++_}
 use mathlib.Core.Bool.{Bool, true, false, cond}
+use mathlib.Mathlib.Data.Bool.Basic.{eq-false-of-not-eq-true, eq-true-of-not-eq-false}
 use native.Mathlib.Omega.{arith}
 use lib.Dec.{ltb, eqb}
 use lib.ListN.{length, getD, drop, length-append}
@@ -12,7 +13,7 @@ use Rattle.packet_spec.specs.Header.{Expected, payloadType, payload}
 use Rattle.packet_spec.specs.Redundancy.{Head, Heads, heads, bad, headOf, header, headers, total, agesFall, areText}
 use Rattle.base.specs.Checks.{Check, checked}
 use Rattle.packet_spec.specs.Reading.{Content, Read, holds, refused, headerChecks, headsOf, content, blocksRead, reading}
-use Rattle.base.proofs.Tests.{by-test, surely, otherwise}
+use Rattle.base.proofs.Tests.{by-test}
 use Rattle.base.proofs.InOrder.{NoneApplies}
 use Rattle.packet_spec.proofs.CheckOrder.{gives-20, gives-21, gives-22, past-21}
 
@@ -87,9 +88,9 @@ accepted n expected t140 red p c e =
     go (bad k) b w f = absurd (let z : _≡_ {A = ℕ} 0 1 = cc in omega arith)
     go (heads hs s) b w f =
         let x = holds (content p hs s) in
-        let fit : total hs ≤ length s = ltb-false (length s) (total hs) (otherwise (ltb (length s) (total hs)) (λ e. not-refused 20 f (gives-20 refused hs s x (ltb-true (length s) (total hs) e)))) in
-        let ages : agesFall hs ≡ true = surely (agesFall hs) (λ e. not-refused 22 f (gives-22 refused hs s x fit e)) in
-        let text : areText hs s ≡ true = surely (areText hs s) (λ e. not-refused 21 f (gives-21 refused hs s x fit ages e)) in
+        let fit : total hs ≤ length s = ltb-false (length s) (total hs) (eq-false-of-not-eq-true (λ e. not-refused 20 f (gives-20 refused hs s x (ltb-true (length s) (total hs) e)))) in
+        let ages : agesFall hs ≡ true = eq-true-of-not-eq-false (λ e. not-refused 22 f (gives-22 refused hs s x fit e)) in
+        let text : areText hs s ≡ true = eq-true-of-not-eq-false (λ e. not-refused 21 f (gives-21 refused hs s x fit ages e)) in
         record {
           checks = w;
           hs = hs;

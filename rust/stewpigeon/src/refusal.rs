@@ -123,7 +123,7 @@ impl Refusal {
             Refusal::PayloadType => "drop it, or open with the payload types of this line",
             Refusal::Source => "drop it, or open another receiver for a new source",
             Refusal::BlockAges => {
-                "drop it; if more than a first packet is refused so, have its sender mended"
+                "drop it, and have the sender mended if more than its first packet is refused"
             }
             Refusal::Header
             | Refusal::Padding

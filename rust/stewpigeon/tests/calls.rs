@@ -161,7 +161,7 @@ fn refusals_and_their_numbers() {
     assert_eq!(
         shown,
         "refused 22: older blocks' time offsets do not fall to 1 or more; \
-         drop it; if more than a first packet is refused so, have its sender mended"
+         drop it, and have the sender mended if more than its first packet is refused"
     );
     let shown = Refusal::Rate.to_string();
     assert_eq!(

@@ -1,7 +1,6 @@
 -- What is seen of the block headers of a payload: 01's number, and where that is 0 the older blocks' headers, and where the oldest
 -- block starts.
 use Prim.Native.Nat.{ℕ, _-_}
-use mathlib.Core.Path.{_≡_}
 use mathlib.Core.List.{List, [], map}
 use mathlib.Core.Bool.{Bool, cond, _||_}
 use lib.Dec.{ltb}
@@ -23,10 +22,6 @@ seenHeads count hs = take count (map seenHead hs)
 
 abbrev pub noHead : code.Head
 noHead = record { offset = 0; len = 0 }
-
--- those behind the count are zeros
-abbrev pub ZerosBehind : ℕ → List code.Head → Type 0
-ZerosBehind count hs = map seenHead hs ≡ filled (seenHead noHead) level (seenHeads count hs)
 
 pub record HeadersSeen : Type 0 where
   pub number : ℕ

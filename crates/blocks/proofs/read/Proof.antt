@@ -27,7 +27,7 @@ read-blocks-requires c κs =
     let q = c .before .before .before in
     let a = q .before .before .args in
     let t = accepted-told (a .plain) (a .t140) (now (a .packet)) (a .from) (a .end) (q .read .result) (q .read .ensures) (c .before .enum-told .given .1) in
-    (t .1, t .2, t .3, t .4)
+    (t .1, t .2, t .3)
 
 returns : tie.Need-returns
 returns c =
