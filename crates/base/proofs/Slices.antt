@@ -4,7 +4,7 @@ use mathlib.Core.Path.{_≡_, _∙_, refl, ap, sym}
 use mathlib.Core.List.{List, [], _∷_}
 use native.Mathlib.Omega.{arith}
 use lib.ListN.{length, getD, take, drop, length-drop}
-use lib.Seq.{slice, length-slice, getD-drop, getD-take, take-take, drop-drop, take-nil}
+use lib.Seq.{slice, length-slice, take-all, getD-drop, getD-take, take-take, drop-drop, take-nil}
 
 module _ {A : Type 0} where
   take-drop : (n f : ℕ) (l : List A) → take n (drop f l) ≡ drop f (take (f + n) l)
@@ -16,6 +16,9 @@ module _ {A : Type 0} where
 
   pub mid-slice : (f t : ℕ) (l : List A) → f ≤ t → take (t - f) (drop f l) ≡ slice f t l
   mid-slice f t l h = let e : f + (t - f) ≡ t = omega arith in take-drop (t - f) f l ∙ ap (λ (k : ℕ). slice f k l) e
+
+  pub mid-rest : (f : ℕ) (l : List A) → take (length l - f) (drop f l) ≡ drop f l
+  mid-rest f l = take-all (length l - f) (drop f l) (omega (arith, length-drop f l))
 
   -- an end of a list, by its length
   end-of : (m : List A) (k : ℕ) → drop (length m - length (drop k m)) m ≡ drop k m

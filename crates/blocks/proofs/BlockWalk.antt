@@ -1,19 +1,20 @@
 -- The walk over blocks: where the next one lies, and what is left behind it.
 use Prim.Native.Nat.{ℕ, suc, _+_, _<_, _≤_}
-use mathlib.Core.Path.{_≡_, _∙_, refl, ap, sym}
+use mathlib.Core.Path.{_≡_, _∙_, refl, ap}
 use mathlib.Core.List.{List, [], _∷_, _++_}
 use mathlib.Core.Bool.{Bool, true, cond, _&&_}
 use native.Mathlib.Numerals.{add-one}
 use native.Mathlib.Omega.{arith}
 use lib.Dec.{ltb}
 use lib.ListN.{length, getD, take, drop}
-use lib.Seq.{slice, drop-cons, drop-length, drop-drop, getD-take, length-take-le}
+use lib.Seq.{slice, drop-cons, drop-length, getD-take, length-take-le}
 use borrow.Author.Tests.{lt-ltb, le-ltb}
 use Rattle.packet.specs.declared.Older.{Older}
-use Rattle.packet_spec.specs.Redundancy.{Head, total, olderOf, blocksOf, allText, areText}
+use Rattle.packet_spec.specs.Redundancy.{Head, total, areText}
 use Rattle.text_spec.specs.Utf8.{isText}
 use Rattle.block_headers.specs.internal.Seen.{seenHead, noHead}
 use Rattle.blocks.specs.internal.Placing.{headPlaces}
+use Rattle.packet_spec.proofs.TextBlocks.{text-first}
 use Rattle.base.proofs.Slices.{take-slice, drop-slice}
 
 pub total-snoc : (hs : List Head) (h : Head) → total (hs ++ (h ∷ [])) ≡ total hs + h .len
@@ -31,11 +32,6 @@ places-snoc at (x ∷ xs) h =
 pub places-length : (at : ℕ) (hs : List Head) → length (headPlaces at hs) ≡ length hs
 places-length at [] = refl
 places-length at (h ∷ hs) = ap suc (places-length (at + h .len) hs)
-
--- the first block and the rest
-text-first : (h : Head) (hs : List Head) (s : List ℕ) → areText (h ∷ hs) s ≡ (isText (take (h .len) s) && areText hs (drop (h .len) s))
-text-first h hs s =
-    ap (λ (q : List ℕ). isText (take (h .len) s) && allText (blocksOf (olderOf hs (drop (h .len) s)) q)) (sym (drop-drop (total hs) (h .len) s))
 
 -- what is left to check behind block k, which ends at a place
 abbrev pub behind : List ℕ → List Head → ℕ → ℕ → ℕ → ℕ → Bool

@@ -1,6 +1,6 @@
 // The blocks of a payload: where they lie, and whether they are text.
 ghost use mathlib.Core.Path.{_≡_};
-ghost use mathlib.Core.Bool.{Bool, cond};
+ghost use mathlib.Core.Bool.{cond};
 ghost use Prim.Native.Nat.{_+_, _≤_};
 ghost use lib.ListN.{length};
 ghost use lib.Seq.{slice};
@@ -71,11 +71,25 @@ pub fn check(
         let mut owed = text::fresh();
         let mut i = at;
         while i < to {
-            match text::step(owed, packet[i]) {
-                Walked::Next(next) => owed = next,
-                Walked::Bad => {
-                    outcome = Outcome::Refused(Refusal::BlockText);
-                    break 'blocks;
+            let byte = packet[i];
+            let tails = owed.tails;
+            if tails == 0 {
+                if 0x80 <= byte {
+                    match text::lead(byte) {
+                        Walked::Next(next) => owed = next,
+                        Walked::Bad => {
+                            outcome = Outcome::Refused(Refusal::BlockText);
+                            break 'blocks;
+                        }
+                    }
+                }
+            } else {
+                match text::step(owed, byte) {
+                    Walked::Next(next) => owed = next,
+                    Walked::Bad => {
+                        outcome = Outcome::Refused(Refusal::BlockText);
+                        break 'blocks;
+                    }
                 }
             }
             i += 1;

@@ -7,7 +7,7 @@ use native.Mathlib.Omega.{arith}
 use borrow.Rule.Slice.PartMut.{putMid, midOf}
 use lib.Dec.{ltb}
 use lib.ListN.{length, drop, length-drop, length-append}
-use lib.Seq.{drop-drop, take-all}
+use lib.Seq.{drop-drop}
 use Rattle.base.specs.Arrays.{over}
 use Rattle.base.proofs.Lent.{length-over, wrote}
 use Rattle.base.proofs.Tests.{and-left}
@@ -17,6 +17,7 @@ use Rattle.standing.specs.Filling.{Fill, reads, lastTurn, afterTurn, fillOf}
 use Rattle.standing.proofs.HowFar.{given-fits, used-fits}
 use Rattle.standing.proofs.Filling.{turnsLeft, turn-less, fill-on, fill-ends}
 use Rattle.journal.specs.declared.Transcript.{Transcript}
+use Rattle.base.proofs.Slices.{mid-rest}
 use Rattle.journal.specs.Ready.{standingOf, transcriptReady, hungryNow, Takes, Fills}
 use Rattle.journal.proofs.Ready.{hungry-is}
 use Rattle.journal.proofs.GiveLeaves.{Gives}
@@ -26,7 +27,7 @@ abbrev pub from : ℕ → List ℕ → List ℕ
 from at l = midOf at (length l - at) l
 
 pub from-is : (at : ℕ) (l : List ℕ) → from at l ≡ drop at l
-from-is at l = take-all (length l - at) (drop at l) (omega (arith, length-drop at l))
+from-is = mid-rest
 
 -- `fill` on s₀, the lent p₀, the bytes x₀ and the space y₀
 module _ (s₀ : Transcript) (p₀ x₀ y₀ : List ℕ) where

@@ -7,3 +7,4 @@ pub mod BlockRuns
 pub mod BlocksLie
 pub mod RefusalNumbers
 pub mod ReadBack
+pub mod TextBlocks

@@ -17,7 +17,7 @@ use borrow.Author.Tests.{leb-true}
 use lib.Dec.{leb}
 use Rattle.base.proofs.Tests.{and-left, and-right}
 use Rattle.reading.proofs.Sound.{fits}
-use Rattle.parts.proofs.Zeros.{behind}
+use Rattle.base.proofs.Slices.{mid-rest}
 use Rattle.records.proofs.LentBuffer.{lends-all}
 
 pub gone : (r : Reader) (p s : List ℕ) → sound r ≡ true → Went r p s r p 0
@@ -39,7 +39,7 @@ over-end r s e = (ap (readTo r) e, ap (unread r) e ∙ sym e)
 module _ (r₀ : Reader) (p₀ s : List ℕ) (r : Reader) (p : List ℕ) (i : ℕ) (w : Went r₀ p₀ s r p i) where
   module _ (r' : Reader) (p' : List ℕ) (n : ℕ) (t : Went r p (take (length s - i) (drop i s)) r' p' n) where
     next : Went r p (drop i s) r' p' n
-    next = rw (behind i s) at t
+    next = rw (mid-rest i s) at t
 
     pub went-on : Went r₀ p₀ s r' p' (i + n)
     went-on = record {
@@ -70,7 +70,7 @@ module _ (r₀ : Reader) (p₀ s : List ℕ) (r : Reader) (p : List ℕ) (i : �
   -- and the rest is read from there
   module _ (r' : Reader) (p' : List ℕ) (n : ℕ) (t : ReadAll r p (take (length s - i) (drop i s)) r' p' n) (big : longestPacket ≤ length p') where
     rest : ReadAll r p (drop i s) r' p' n
-    rest = rw (behind i s) at t
+    rest = rw (mid-rest i s) at t
 
     whole : readTo (readingOf r₀ p₀) s ≡ readingOf r' p'
     whole = w .reads ∙ sym (rest .reads)

@@ -1,18 +1,17 @@
 -- A turn of whole pieces, and a packet's beginning with them.
 use Prim.Native.Nat.{ℕ, zero, suc, _+_, _-_, _*_, _<_, _≤_}
-use mathlib.Core.Path.{_≡_, _∙_, refl, ap, sym}
-use mathlib.Core.List.{List, [], _∷_, _++_}
-use mathlib.Core.Bool.{Bool, true}
+use mathlib.Core.Path.{_≡_, refl, ap}
+use mathlib.Core.List.{List, [], _∷_}
+use mathlib.Core.Bool.{true}
 use native.Mathlib.Omega.{arith}
 use borrow.Author.Tests.{lt-ltb, le-ltb, le-leb, ne-eqb}
-use lib.Dec.{ltb}
 use lib.ListN.{length, getD, take, drop, length-drop}
 use lib.Seq.{drop-drop, length-take-le}
 use Rattle.journal_spec.specs.Contents.{longestPacket}
 use Rattle.parts.specs.declared.Part.{Part}
 use Rattle.parts.specs.declared.Part.the-variants.{Kind, Length, Low}
 use Rattle.reading.specs.declared.Reader.{Reader}
-use Rattle.parts.specs.Bytes.{Reading, going, byte, at, recordBegun, pieceEnd}
+use Rattle.parts.specs.Bytes.{Reading, going, byte, at, recordBegun}
 use Rattle.parts.specs.Sound.{wholePieces}
 use Rattle.reading.specs.Reading.{readingOf, with, broken, sound}
 use Rattle.records.specs.internal.Turns.{inPacket, Gathers, Turned}
@@ -20,7 +19,7 @@ use Rattle.parts.proofs.Laws.{Moves, andThen, step}
 use Rattle.base.proofs.Tests.{both}
 use Rattle.parts.proofs.Sound.{whole-is}
 use Rattle.reading.proofs.Sound.{small, at-part}
-use Rattle.parts.proofs.Zeros.{behind}
+use Rattle.base.proofs.Slices.{mid-rest}
 use Rattle.records.proofs.LentBuffer.{grows-end}
 use Rattle.records.proofs.Turns.{went, went-put, some-used, sound-end}
 
@@ -86,7 +85,7 @@ module _ (r : Reader) (p s : List ℕ) (e : r .part ≡ Kind) (ok : sound r ≡ 
 
   module _ (fit : n ≤ longestPacket) (d : Part) (at' : ℕ) (p' : List ℕ) (used : ℕ) (g : Gathers n 0 p (take (length s - 3) (drop 3 s)) d at' p' used) (same : length p' ≡ length p) where
     rest-goes : Gathers n 0 p (drop 3 s) d at' p' used
-    rest-goes = rw (behind 3 s) at g
+    rest-goes = rw (mid-rest 3 s) at g
 
     packet-used : 3 + used ≤ length s
     packet-used = omega (arith, rest-goes .within, length-drop 3 s)

@@ -1,8 +1,10 @@
-// UTF-8, a byte at a time (RFC 3629, section 4).
+// UTF-8 (RFC 3629, section 4): a byte at a time, plain letters many at a time.
+mod plain;
+
 ghost use mathlib.Core.Path.{_≡_};
 ghost use mathlib.Core.List.{[]};
-ghost use lib.ListN.{length};
-ghost use Prim.Native.Nat.{_≤_};
+ghost use lib.ListN.{length, getD};
+ghost use Prim.Native.Nat.{ℕ, _<_, _≤_};
 ghost use Rattle.text_spec.specs.Utf8.{owedAfter, begins, textOf};
 ghost use Rattle.text_spec.specs.Front.{front};
 ghost use Rattle.text.specs.Owed.{owes, walked};
@@ -63,7 +65,8 @@ pub fn step(owed: Owed, byte: u8) -> Walked
     })
 }
 
-fn lead(byte: u8) -> Walked
+// The first byte of a letter.
+pub fn lead(byte: u8) -> Walked
     ensures { λ r. ⌜ walked r ≡ owedAfter [] byte ⌝ }
 {
     match byte {
@@ -98,20 +101,58 @@ pub fn text_of(bytes: &[u8]) -> Text
 {
     let mut owed = fresh();
     let mut characters: usize = 0;
+    // plain letters, one behind the other
+    let mut run: usize = 0;
     let mut at: usize = 0;
     while at < bytes.len() {
+        let byte = bytes[at];
+        let tails = owed.tails;
         characters += begins(owed);
-        match step(owed, bytes[at]) {
-            Walked::Next(next) => owed = next,
-            Walked::Bad => return Text::Stops(at),
+        if tails == 0 {
+            if byte < 0x80 {
+                at += 1;
+                run += 1;
+                // fewer are not worth the call
+                if run == 8 {
+                    let more = plain_end(&bytes[at..]);
+                    at += more;
+                    characters += more;
+                    run = 0;
+                }
+                continue;
+            }
+            match lead(byte) {
+                Walked::Next(next) => owed = next,
+                Walked::Bad => return Text::Stops(at),
+            }
+        } else {
+            match step(owed, byte) {
+                Walked::Next(next) => owed = next,
+                Walked::Bad => return Text::Stops(at),
+            }
         }
         at += 1;
+        run = 0;
     }
     let tails = owed.tails;
     if tails != 0 {
         return Text::Stops(at);
     }
     Text::Characters(characters)
+}
+
+// Where the plain letters at the front of bytes end.
+pub fn plain_end(bytes: &[u8]) -> usize
+    ensures { λ r. ⌜ (r ≤ length (now (bytes .entry))) × ((k : ℕ) → k < r → getD (now (bytes .entry)) k 0 < 0x80) × (r < length (now (bytes .entry)) → 0x80 ≤ getD (now (bytes .entry)) r 0) ⌝ }
+{
+    let mut at = plain::wide_end(bytes);
+    while at < bytes.len() {
+        if 0x80 <= bytes[at] {
+            return at;
+        }
+        at += 1;
+    }
+    at
 }
 
 // How many bytes the first characters have, so many at most. They end at a byte that begins no letter; a letter that the

@@ -1,6 +1,8 @@
 pub mod Rows
 pub mod Table
 pub mod Walks
+pub mod Plain
+pub mod PlainTests
 pub mod WellFormed
 pub mod TextJoin
 pub mod FrontLaws

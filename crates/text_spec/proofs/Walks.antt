@@ -32,7 +32,7 @@ module _ (owed : List Range) (n at : ℕ) (s : List ℕ) (h : at < length s) whe
 abbrev pub goesOn : List Range → List ℕ → Bool
 goesOn owed s = wellFormed (textFrom owed 0 0 s)
 
-goes-anywhere : (s : List ℕ) (owed : List Range) (n at m k : ℕ) → wellFormed (textFrom owed n at s) ≡ wellFormed (textFrom owed m k s)
+pub goes-anywhere : (s : List ℕ) (owed : List Range) (n at m k : ℕ) → wellFormed (textFrom owed n at s) ≡ wellFormed (textFrom owed m k s)
 goes-anywhere [] [] n at m k = refl
 goes-anywhere [] (r ∷ rs) n at m k = refl
 goes-anywhere (b ∷ bs) owed n at m k = go (owedAfter owed b) (λ rest. goes-anywhere bs rest (n + begins owed) (at + 1) (m + begins owed) (k + 1))

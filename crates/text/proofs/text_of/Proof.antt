@@ -1,28 +1,55 @@
-use Prim.Native.Nat.{ℕ, _+_, _≤_, _-_}
+use Prim.Native.Nat.{ℕ, _+_, _<_, _≤_, _-_}
 use mathlib.Core.Path.{_≡_, _∙_, ap, sym}
 use mathlib.Core.List.{List}
+use mathlib.Core.Logic.{⊎-elim}
+use mathlib.Core.Option.{some}
 use native.Mathlib.Omega.{arith}
-use lib.ListN.{length, drop, drop-of-length-le}
+use lib.ListN.{length, getD, take, drop, drop-of-length-le}
 use borrow.Author.Needs.{needs}
 use denote.Ref.{now}
+use Rattle.text.specs.declared.Owed.{Owed}
+use Rattle.text.specs.declared.Walked.the-variants.{Next}
 use Rattle.text.specs.Owed.{walked, owes}
-use Rattle.text_spec.specs.Utf8.{Range, textFrom, textOf}
+use Rattle.text_spec.specs.Utf8.{Range, owedAfter, begins, textFrom, textOf}
 use Rattle.text_spec.proofs.Walks.{on-at, stops-at}
-use Rattle.text.proofs.Owes.{owes-none, owes-some}
+use Rattle.text_spec.proofs.Plain.{plain-front, plain-at}
+use Rattle.base.proofs.Slices.{mid-rest}
+use Rattle.text.proofs.Owes.{owes-none, owes-some, owes-lead, owes-plain}
 use Rattle.text.proofs.text_of.Statement.{statement}
 use Rattle.text.proofs.text_of.Tie as tie
 
 abbrev Inv-loop : tie.InvT-loop
-Inv-loop bytes owed₀ characters₀ at₀ owed characters at = (at ≤ length bytes) × (characters ≤ at) × (textOf bytes ≡ textFrom (owes owed) characters at (drop at bytes))
+Inv-loop bytes owed₀ characters₀ run₀ at₀ owed characters run at =
+    (at ≤ length bytes) × (characters ≤ at) × (run < 8) × (textOf bytes ≡ textFrom (owes owed) characters at (drop at bytes))
 
 abbrev μ-loop : tie.MeasureT-loop
-μ-loop bytes owed₀ characters₀ at₀ owed characters at = length bytes - at
+μ-loop bytes owed₀ characters₀ run₀ at₀ owed characters run at = length bytes - at
+
+-- one byte more, where so many letters begin with it
+module _ (s : List ℕ) (o : Owed) (n at b : ℕ) (h : at < length s) (e : b ≡ begins (owes o)) where
+  on : (p : Owed) → owedAfter (owes o) (getD s at 0) ≡ some (owes p) → textFrom (owes o) n at (drop at s) ≡ textFrom (owes p) (n + b) (at + 1) (drop (at + 1) s)
+  on p f = on-at (owes o) n at s h f ∙ ap (λ (k : ℕ). textFrom (owes p) (n + k) (at + 1) (drop (at + 1) s)) (sym e)
+
+  -- a plain one, where nothing is owed
+  plain-letter : o .tails ≡ 0 → getD s at 0 < 0x80 → textFrom (owes o) n at (drop at s) ≡ textFrom (owes o) (n + b) (at + 1) (drop (at + 1) s)
+  plain-letter z g = on o (owes-plain o (getD s at 0) z g)
+
+  -- and a run of them behind it
+  plain-run : o .tails ≡ 0 → getD s at 0 < 0x80 → (m : ℕ) → m ≤ length (take (length s - (at + 1)) (drop (at + 1) s))
+      → ((k : ℕ) → k < m → getD (take (length s - (at + 1)) (drop (at + 1) s)) k 0 < 0x80)
+      → textFrom (owes o) n at (drop at s) ≡ textFrom (owes o) (n + b + m) (at + 1 + m) (drop (at + 1 + m) s)
+  plain-run z g m l f =
+      let d = mid-rest (at + 1) s in
+      plain-letter z g ∙ rw (owes-none o z) (plain-at s (n + b) (at + 1) m (rw d at l) (plain-front m (drop (at + 1) s) (rw d at f)))
 
 fresh-requires : tie.Need-fresh-requires Inv-loop μ-loop
 fresh-requires c κs = search needs
 
 loop-holds : tie.Need-loop-holds Inv-loop μ-loop
-loop-holds c = (search needs, search needs, ap (λ (l : List Range). textFrom l 0 0 (now (c .before .before .args .bytes))) (sym (c .fresh .ensures)))
+loop-holds c = (search needs, search needs, search needs, ap (λ (l : List Range). textFrom l 0 0 (now (c .before .before .args .bytes))) (sym (c .fresh .ensures)))
+
+shared-slice-read-byte : tie.Need-shared-slice-read-byte Inv-loop μ-loop
+shared-slice-read-byte c = search needs
 
 begins-requires : tie.Need-begins-requires Inv-loop μ-loop
 begins-requires c κs = search needs
@@ -30,11 +57,63 @@ begins-requires c κs = search needs
 add-characters : tie.Need-add-characters Inv-loop μ-loop
 add-characters c = search needs
 
-shared-slice-read-step : tie.Need-shared-slice-read-step Inv-loop μ-loop
-shared-slice-read-step c = search needs
+add-at : tie.Need-add-at Inv-loop μ-loop
+add-at c = search needs
 
-step-requires : tie.Need-step-requires Inv-loop μ-loop
-step-requires c κs = search needs
+add-run : tie.Need-add-run Inv-loop μ-loop
+add-run c = search needs
+
+sub-plain-end : tie.Need-sub-plain-end Inv-loop μ-loop
+sub-plain-end c = search needs
+
+part-plain-end-start : tie.Need-part-plain-end-start Inv-loop μ-loop
+part-plain-end-start c = search needs
+
+part-plain-end-end : tie.Need-part-plain-end-end Inv-loop μ-loop
+part-plain-end-end c = search needs
+
+plain-end-requires : tie.Need-plain-end-requires Inv-loop μ-loop
+plain-end-requires c κs = search needs
+
+add-at-2 : tie.Need-add-at-2 Inv-loop μ-loop
+add-at-2 c = search needs
+
+add-characters-2 : tie.Need-add-characters-2 Inv-loop μ-loop
+add-characters-2 c = search needs
+
+loop-less : tie.Need-loop-less Inv-loop μ-loop
+loop-less c = search needs
+
+loop-again : tie.Need-loop-again Inv-loop μ-loop
+loop-again c =
+    let l = c .before .before .before .before .before .before .before .before .loop in
+    let s = now (c .before .before .before .before .before .before .before .before .before .before .before .args .bytes) in
+    let b = c .before .before .before .before .before .begins in (
+      search needs,
+      omega (arith, b .ensures .1),
+      omega arith,
+      l .inv .3
+          ∙ plain-run s (l .owed) (l .characters) (l .at) (b .result) (c .before .before .before .before .before .before .before .loop-test .taken) (b .ensures .0) (c .before .before .before .before .if1 .taken) (c .before .before .before .if2 .taken)
+          (c .plain-end .result) (c .plain-end .ensures .0) (c .plain-end .ensures .1),
+    )
+
+loop-less-2 : tie.Need-loop-less-2 Inv-loop μ-loop
+loop-less-2 c = search needs
+
+loop-again-2 : tie.Need-loop-again-2 Inv-loop μ-loop
+loop-again-2 c =
+    let l = c .before .before .before .before .before .before .loop in
+    let s = now (c .before .before .before .before .before .before .before .before .before .args .bytes) in
+    let b = c .before .before .before .begins in (
+      search needs,
+      omega (arith, b .ensures .1),
+      omega arith,
+      l .inv .3
+          ∙ plain-letter s (l .owed) (l .characters) (l .at) (b .result) (c .before .before .before .before .before .loop-test .taken) (b .ensures .0) (c .before .before .if1 .taken) (c .before .if2 .taken),
+    )
+
+lead-requires : tie.Need-lead-requires Inv-loop μ-loop
+lead-requires c κs = search needs
 
 enum-known-next : tie.Need-enum-known-next Inv-loop μ-loop
 enum-known-next c = search needs
@@ -44,36 +123,58 @@ enum-told c = search needs
 
 returns : tie.Need-returns Inv-loop μ-loop
 returns c =
-    let l = c .before .before .before .before .before .before .loop in
-    sym (l .inv .2 ∙ stops-at (owes (l .owed)) (l .characters) (l .at) (now (c .before .before .before .before .before .before .before .before .before .args .bytes)) (c .before .before .before .before .before .loop-test .taken)
-    (sym (c .before .before .step .ensures) ∙ ap walked (c .enum-told .given .1)))
+    let l = c .before .before .before .before .before .before .before .before .loop in
+    let s = now (c .before .before .before .before .before .before .before .before .before .before .before .args .bytes) in
+    sym (l .inv .3 ∙ stops-at (owes (l .owed)) (l .characters) (l .at) s (c .before .before .before .before .before .before .before .loop-test .taken)
+    (owes-lead (l .owed) (getD s (l .at) 0) (c .before .before .before .before .if1 .taken) (sym (c .before .before .lead .ensures) ∙ ap walked (c .enum-told .given .1))))
 
-add-at : tie.Need-add-at Inv-loop μ-loop
-add-at c = search needs
+step-requires : tie.Need-step-requires Inv-loop μ-loop
+step-requires c κs = search needs
 
-loop-less : tie.Need-loop-less Inv-loop μ-loop
-loop-less c = search needs
+enum-known-next-2 : tie.Need-enum-known-next-2 Inv-loop μ-loop
+enum-known-next-2 c = search needs
 
-loop-again : tie.Need-loop-again Inv-loop μ-loop
-loop-again c =
-    let l = c .before .before .before .before .before .before .before .loop in (
-      search needs,
-      omega (arith, c .before .before .before .before .before .begins .ensures .1),
-      l .inv .2
-          ∙ on-at (owes (l .owed)) (l .characters) (l .at) (now (c .before .before .before .before .before .before .before .before .before .before .args .bytes)) (c .before .before .before .before .before .before .loop-test .taken)
-          (sym (c .before .before .before .step .ensures) ∙ ap walked (c .before .next .given .1))
-          ∙ ap (λ (k : ℕ). textFrom (owes (c .before .next .given .0 .0)) (l .characters + k) (l .at + 1) (drop (l .at + 1) (now (c .before .before .before .before .before .before .before .before .before .before .args .bytes)))) (sym (c .before .before .before .before .before .begins .ensures .0)),
-    )
+enum-told-2 : tie.Need-enum-told-2 Inv-loop μ-loop
+enum-told-2 c = search needs
 
 returns-2 : tie.Need-returns-2 Inv-loop μ-loop
 returns-2 c =
-    let l = c .before .before .loop in
-    sym (l .inv .2 ∙ rw (drop-of-length-le (now (c .before .before .before .before .before .args .bytes)) (c .before .loop-test .left), owes-some (l .owed) (c .if1 .taken)))
+    let l = c .before .before .before .before .before .before .before .loop in
+    let s = now (c .before .before .before .before .before .before .before .before .before .before .args .bytes) in
+    sym (l .inv .3 ∙ stops-at (owes (l .owed)) (l .characters) (l .at) s (c .before .before .before .before .before .before .loop-test .taken)
+    (sym (c .before .before .step .ensures) ∙ ap walked (c .enum-told2 .given .1)))
+
+add-at-3 : tie.Need-add-at-3 Inv-loop μ-loop
+add-at-3 c = search needs
+
+loop-less-3 : tie.Need-loop-less-3 Inv-loop μ-loop
+loop-less-3 c = search needs
+
+loop-again-3 : tie.Need-loop-again-3 Inv-loop μ-loop
+loop-again-3 c =
+    let l = c .before .before .before .before .loop in
+    let s = now (c .before .before .before .before .before .before .before .args .bytes) in
+    let b = c .before .begins in
+    let f : owedAfter (owes (l .owed)) (getD s (l .at) 0) ≡ some (owes (c .if1 .owed)) =
+    ⊎-elim
+    (λ w. owes-lead (l .owed) (getD s (l .at) 0) (w .0 .taken) (sym (w .2 .ensures) ∙ ap walked (w .4 .given .1 ∙ ap Next (sym (w .6)))))
+    (λ w. sym (w .1 .ensures) ∙ ap walked (w .3 .given .1 ∙ ap Next (sym (w .5))))
+    (c .if1 .came) in (
+      search needs,
+      omega (arith, b .ensures .1),
+      omega arith,
+      l .inv .3 ∙ on s (l .owed) (l .characters) (l .at) (b .result) (c .before .before .before .loop-test .taken) (b .ensures .0) (c .if1 .owed) f,
+    )
 
 returns-3 : tie.Need-returns-3 Inv-loop μ-loop
 returns-3 c =
     let l = c .before .before .loop in
-    sym (l .inv .2 ∙ rw (drop-of-length-le (now (c .before .before .before .before .before .args .bytes)) (c .before .loop-test .left), owes-none (l .owed) (c .if1 .left)))
+    sym (l .inv .3 ∙ rw (drop-of-length-le (now (c .before .before .before .before .before .args .bytes)) (c .before .loop-test .left), owes-some (l .owed) (c .if4 .taken)))
+
+returns-4 : tie.Need-returns-4 Inv-loop μ-loop
+returns-4 c =
+    let l = c .before .before .loop in
+    sym (l .inv .3 ∙ rw (drop-of-length-le (now (c .before .before .before .before .before .args .bytes)) (c .before .loop-test .left), owes-none (l .owed) (c .if4 .left)))
 
 pub text-of-spec : {M : Type 1} → statement M
 text-of-spec =
@@ -83,15 +184,31 @@ text-of-spec =
     μ-loop
     fresh-requires
     loop-holds
+    shared-slice-read-byte
     begins-requires
     add-characters
-    shared-slice-read-step
-    step-requires
+    add-at
+    add-run
+    sub-plain-end
+    part-plain-end-start
+    part-plain-end-end
+    plain-end-requires
+    add-at-2
+    add-characters-2
+    loop-less
+    loop-again
+    loop-less-2
+    loop-again-2
+    lead-requires
     enum-known-next
     enum-told
     returns
-    add-at
-    loop-less
-    loop-again
+    step-requires
+    enum-known-next-2
+    enum-told-2
     returns-2
-    returns-3)
+    add-at-3
+    loop-less-3
+    loop-again-3
+    returns-3
+    returns-4)

@@ -9,14 +9,14 @@ use Rattle.blocks.proofs.judging.judge.Tie as tie
 ages-fall-requires : tie.Need-ages-fall-requires
 ages-fall-requires c κs = search needs
 
-check-requires : tie.Need-check-requires
-check-requires c κs = search needs
+judge-text-requires : tie.Need-judge-text-requires
+judge-text-requires c κs = search needs
 
 returns : tie.Need-returns
 returns c =
     let a = c .before .before .before .before .args in
     let e : agesFall (seenHeads (a .count) (a .heads)) ≡ true = sym (c .before .before .ages-fall .ensures) ∙ c .before .if1 .taken in
-    rw e (c .check .ensures)
+    rw e (c .judge-text .ensures)
 
 returns-2 : tie.Need-returns-2
 returns-2 c =
@@ -25,4 +25,4 @@ returns-2 c =
     rw e
 
 pub judge-spec : {M : Type 1} → statement M
-judge-spec = tie.close (tie.spec ages-fall-requires check-requires returns returns-2)
+judge-spec = tie.close (tie.spec ages-fall-requires judge-text-requires returns returns-2)

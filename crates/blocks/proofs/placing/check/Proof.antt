@@ -3,21 +3,24 @@ use mathlib.Core.Path.{_≡_, _∙_, ap, sym}
 use mathlib.Core.List.{List, map}
 use mathlib.Core.Bool.{Bool, true, false}
 use mathlib.Core.Logic.{⊎-elim}
+use mathlib.Core.Option.{some}
 use native.Mathlib.Omega.{arith}
-use lib.ListN.{length, drop, length-map}
+use lib.ListN.{length, getD, drop, length-map}
 use lib.Seq.{slice, slice-empty}
 use borrow.Author.Needs.{needs}
 use borrow.Author.Tests.{lt-ltb, le-ltb}
 use denote.Ref.{now}
 use Rattle.packet.specs.declared.Outcome.the-variants.{Accepted}
 use Rattle.packet_spec.specs.Limits.{level}
-use Rattle.text_spec.specs.Utf8.{Range, isText}
+use Rattle.text_spec.specs.Utf8.{Range, owedAfter, isText}
+use Rattle.text.specs.declared.Owed.{Owed}
+use Rattle.text.specs.declared.Walked.the-variants.{Next}
 use Rattle.text.specs.Owed.{owes, walked}
 use Rattle.packet_spec.specs.Redundancy.{Head, total, areText}
 use Rattle.block_headers.specs.internal.Seen.{seenHead, seenHeads, noHead}
 use Rattle.base.proofs.Maps.{getD-map}
 use Rattle.text_spec.proofs.Walks.{goesOn, part-on, part-stops}
-use Rattle.text.proofs.Owes.{owes-none, owes-some}
+use Rattle.text.proofs.Owes.{owes-none, owes-some, owes-lead, owes-plain}
 use Rattle.blocks.proofs.BlockWalk.{Here, behind, older-here, primary-here}
 use Rattle.blocks.proofs.placing.check.Statement.{statement}
 use Rattle.blocks.proofs.placing.check.Tie as tie
@@ -111,17 +114,26 @@ loop-holds c =
       ap (λ (o : List Range). goesOn o (slice (l .at) to (now (a .packet)))) (sym (c .fresh .ensures)),
     )
 
-shared-slice-read-step : tie.Need-shared-slice-read-step Inv-loop μ-loop Inv-blocks2 μ-blocks2
-shared-slice-read-step c = search needs
+shared-slice-read-byte : tie.Need-shared-slice-read-byte Inv-loop μ-loop Inv-blocks2 μ-blocks2
+shared-slice-read-byte c = search needs
 
-step-requires : tie.Need-step-requires Inv-loop μ-loop Inv-blocks2 μ-blocks2
-step-requires c κs = search needs
+lead-requires : tie.Need-lead-requires Inv-loop μ-loop Inv-blocks2 μ-blocks2
+lead-requires c κs = search needs
 
 enum-known-next : tie.Need-enum-known-next Inv-loop μ-loop Inv-blocks2 μ-blocks2
 enum-known-next c = search needs
 
 enum-told : tie.Need-enum-told Inv-loop μ-loop Inv-blocks2 μ-blocks2
 enum-told c = search needs
+
+step-requires : tie.Need-step-requires Inv-loop μ-loop Inv-blocks2 μ-blocks2
+step-requires c κs = search needs
+
+enum-known-next-2 : tie.Need-enum-known-next-2 Inv-loop μ-loop Inv-blocks2 μ-blocks2
+enum-known-next-2 c = search needs
+
+enum-told-2 : tie.Need-enum-told-2 Inv-loop μ-loop Inv-blocks2 μ-blocks2
+enum-told-2 c = search needs
 
 add-i : tie.Need-add-i Inv-loop μ-loop Inv-blocks2 μ-blocks2
 add-i c = search needs
@@ -131,15 +143,18 @@ loop-less c = search needs
 
 loop-again : tie.Need-loop-again Inv-loop μ-loop Inv-blocks2 μ-blocks2
 loop-again c =
-    let l = c .before .before .before .before .before .before .loop in
-    let to = c .before .before .before .before .before .before .before .before .if1 .to in
-    let p = now (c .before .before .before .before .before .before .before .before .before .before .before .args .packet) in (
-      search needs,
-      l .inv .1,
-      l .inv .2,
-      l .inv .3
-          ∙ part-on (owes (l .owed)) p (l .i) to (c .before .before .before .before .before .loop-test .taken) (search needs) (sym (c .before .before .before .step .ensures) ∙ ap walked (c .before .next .given .1)),
-    )
+    let l = c .before .before .before .loop in
+    let to = c .before .before .before .before .before .if1 .to in
+    let p = now (c .before .before .before .before .before .before .before .before .args .packet) in
+    let b = getD p (l .i) 0 in
+    let f : owedAfter (owes (l .owed)) b ≡ some (owes (c .if2 .owed)) =
+    ⊎-elim
+    (λ w. owes-lead (l .owed) b (w .0 .taken) (sym (w .2 .ensures) ∙ ap walked (w .4 .given .1 ∙ ap Next (sym (w .6)))))
+    (⊎-elim
+    (λ w. owes-plain (l .owed) b (w .0 .taken) (w .1 .left) ∙ ap (λ (o : Owed). some (owes o)) (sym (w .2)))
+    (λ w. sym (w .1 .ensures) ∙ ap walked (w .3 .given .1 ∙ ap Next (sym (w .5)))))
+    (c .if2 .came) in
+    (search needs, l .inv .1, l .inv .2, l .inv .3 ∙ part-on (owes (l .owed)) p (l .i) to (c .before .before .loop-test .taken) (search needs) f)
 
 add-k : tie.Need-add-k Inv-loop μ-loop Inv-blocks2 μ-blocks2
 add-k c = search needs
@@ -152,32 +167,45 @@ unfolding all-text
 blocks2-again c =
     let l = c .before .before .before .before .before .before .blocks2 in
     let a = c .before .before .before .before .before .before .before .before .args in
-    let n : l .k < a .count = ne-lt (l .k) (a .count) (l .inv .0) (c .if3 .left) in (
+    let n : l .k < a .count = ne-lt (l .k) (a .count) (l .inv .0) (c .if5 .left) in (
       omega arith,
       c .before .before .before .loop .inv .1,
       c .before .before .before .loop .inv .2 .room n,
-      good-here (c .before .before .before) (owed-none (c .before .before) (c .before .if2 .left)) ∙ rw (lt-ltb (l .k) (a .count) n),
+      good-here (c .before .before .before) (owed-none (c .before .before) (c .before .if4 .left)) ∙ rw (lt-ltb (l .k) (a .count) n),
     )
 
 returns : tie.Need-returns Inv-loop μ-loop Inv-blocks2 μ-blocks2
 unfolding all-text text-here
 returns c =
-    let l = c .before .before .before .before .before .loop in
-    let e : text-here (c .before .before .before .before .before) ≡ false =
+    let d = c .before .before .before .before .before .before .before in
+    let l = d .loop in
+    let p = now (d .before .before .before .before .before .args .packet) in
+    let e : text-here d ≡ false =
     l .inv .3
-    ∙ part-stops (owes (l .owed)) (now (c .before .before .before .before .before .before .before .before .before .before .args .packet)) (l .i) (c .before .before .before .before .before .before .before .if1 .to) (c .before .before .before .before .loop-test .taken) (search needs)
-    (sym (c .before .before .step .ensures) ∙ ap walked (c .enum-told .given .1)) in
-    rw (bad-here (c .before .before .before .before .before) e)
+    ∙ part-stops (owes (l .owed)) p (l .i) (d .before .before .if1 .to) (c .before .before .before .before .before .before .loop-test .taken) (search needs)
+    (owes-lead (l .owed) (getD p (l .i) 0) (c .before .before .before .before .if2 .taken) (sym (c .before .before .lead .ensures) ∙ ap walked (c .enum-told .given .1))) in
+    rw (bad-here d e)
 
 returns-2 : tie.Need-returns-2 Inv-loop μ-loop Inv-blocks2 μ-blocks2
-unfolding all-text
-returns-2 c = rw (bad-here (c .before .before) (owed-some (c .before) (c .if2 .taken)))
+unfolding all-text text-here
+returns-2 c =
+    let d = c .before .before .before .before .before .before in
+    let l = d .loop in
+    let e : text-here d ≡ false =
+    l .inv .3
+    ∙ part-stops (owes (l .owed)) (now (d .before .before .before .before .before .args .packet)) (l .i) (d .before .before .if1 .to) (c .before .before .before .before .before .loop-test .taken) (search needs)
+    (sym (c .before .before .step .ensures) ∙ ap walked (c .enum-told2 .given .1)) in
+    rw (bad-here d e)
 
 returns-3 : tie.Need-returns-3 Inv-loop μ-loop Inv-blocks2 μ-blocks2
 unfolding all-text
-returns-3 c =
+returns-3 c = rw (bad-here (c .before .before) (owed-some (c .before) (c .if4 .taken)))
+
+returns-4 : tie.Need-returns-4 Inv-loop μ-loop Inv-blocks2 μ-blocks2
+unfolding all-text
+returns-4 c =
     let l = c .before .before .before .before .before .before .blocks2 in
-    rw (good-here (c .before .before .before) (owed-none (c .before .before) (c .before .if2 .left)), le-ltb (l .k) (c .before .before .before .before .before .before .before .before .args .count) (omega arith)) (c .before .before .before .loop .inv .1)
+    rw (good-here (c .before .before .before) (owed-none (c .before .before) (c .before .if4 .left)), le-ltb (l .k) (c .before .before .before .before .before .before .before .before .args .count) (omega arith)) (c .before .before .before .loop .inv .1)
 
 pub check-spec : {M : Type 1} → statement M
 check-spec =
@@ -194,10 +222,13 @@ check-spec =
     add-to
     fresh-requires
     loop-holds
-    shared-slice-read-step
-    step-requires
+    shared-slice-read-byte
+    lead-requires
     enum-known-next
     enum-told
+    step-requires
+    enum-known-next-2
+    enum-told-2
     add-i
     loop-less
     loop-again
@@ -206,4 +237,5 @@ check-spec =
     blocks2-again
     returns
     returns-2
-    returns-3)
+    returns-3
+    returns-4)

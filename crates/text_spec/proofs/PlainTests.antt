@@ -1,0 +1,40 @@
+-- Plain letters with others among them (02, request 3), computed.
+use Prim.Native.Nat.{ℕ}
+use mathlib.Core.Path.{_≡_, refl}
+use mathlib.Core.List.{List, [], _∷_, _++_}
+use lib.ListN.{replicate}
+use Rattle.text_spec.specs.Utf8.{Text, Characters, Stops, textOf}
+
+pub record Row : Type 0 where
+  pub bytes : List ℕ
+  pub text : Text
+
+infixl 20 _is_
+abbrev pub _is_ : List ℕ → Text → Row
+s is t = record { bytes = s; text = t }
+
+abbrev pub Holds : List Row → Type 0
+Holds [] = Unit {0}
+Holds (row ∷ rows) = (textOf (row .bytes) ≡ row .text) × Holds rows
+
+-- so many times 41 hex
+abbrev pub plain : ℕ → List ℕ
+plain n = replicate n 0x41
+
+unfoldable pub rows : List Row
+rows =
+    ([] is Characters 0)
+    ∷ (0x7F ∷ [] is Characters 1)
+    ∷ (0x80 ∷ [] is Stops 0)
+    ∷ (plain 64 is Characters 64)
+    ∷ (plain 63 ++ (0x80 ∷ []) is Stops 63)
+    ∷ (plain 64 ++ (0xC3 ∷ []) is Stops 65)
+    ∷ (plain 64 ++ (0xC3 ∷ 0xA5 ∷ []) is Characters 65)
+    ∷ (plain 63 ++ (0xC3 ∷ 0xA5 ∷ []) ++ replicate 64 0x42 is Characters 128)
+    ∷ (0xE2 ∷ 0x82 ∷ plain 64 is Stops 2)
+    ∷ (plain 127 ++ (0xFF ∷ []) is Stops 127)
+    ∷ []
+
+pub plain-tests : Holds rows
+unfolding rows
+plain-tests = (refl, (refl, (refl, (refl, (refl, (refl, (refl, (refl, (refl, (refl, tt))))))))))
