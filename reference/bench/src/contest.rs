@@ -19,12 +19,20 @@ pub struct Run {
     pub sum: u64,
 }
 
-/// Times one call.
-pub fn timed<T: ?Sized>(call: fn(&T) -> u64, on: &T) -> Run {
+/// Times the same call so many times over.
+pub fn passes<T: ?Sized>(times: usize, call: fn(&T) -> u64, on: &T) -> Run {
     let start = Instant::now();
-    let sum = black_box(call(black_box(on)));
+    let mut sum = 0;
+    for _ in 0..times {
+        sum = add(sum, black_box(call(black_box(on))));
+    }
     let time = start.elapsed();
     Run { time, sum }
+}
+
+/// Times one call.
+pub fn timed<T: ?Sized>(call: fn(&T) -> u64, on: &T) -> Run {
+    passes(1, call, on)
 }
 
 fn median(mut figures: Vec<f64>) -> f64 {
@@ -35,9 +43,16 @@ fn median(mut figures: Vec<f64>) -> f64 {
 /// A program's name and a run of it.
 pub type Side<'a> = (&'a str, &'a dyn Fn() -> Run);
 
-/// Times both after a warm-up, each going first in every other round, and
-/// prints the medians per item and of the rounds' ratios.
-pub fn contest(items: usize, what: &str, ours: Side<'_>, theirs: Side<'_>) {
+/// Both sides' ns per item, and our time through theirs.
+pub struct Outcome {
+    pub ours: f64,
+    pub theirs: f64,
+    pub ratio: f64,
+}
+
+/// Times both after a warm-up, each going first in every other round. Answers
+/// the medians of the rounds.
+pub fn medians(items: usize, ours: Side<'_>, theirs: Side<'_>) -> Outcome {
     let mut times = [vec![], vec![]];
     let mut ratios = vec![];
     for round in 0..=ROUNDS {
@@ -61,8 +76,18 @@ pub fn contest(items: usize, what: &str, ours: Side<'_>, theirs: Side<'_>) {
         times[1].push(their / items as f64);
         ratios.push(our / their);
     }
-    let [our, their] = times.map(median);
-    say!("{:<44} {our:>8.3} ns per {what}", ours.0);
-    say!("{:<44} {their:>8.3} ns per {what}", theirs.0);
-    say!("{:<44} {:>8.3}\n", "median of the ratios", median(ratios));
+    let [ours, theirs] = times.map(median);
+    Outcome {
+        ours,
+        theirs,
+        ratio: median(ratios),
+    }
+}
+
+/// Prints the medians of both.
+pub fn contest(items: usize, what: &str, ours: Side<'_>, theirs: Side<'_>) {
+    let medians = medians(items, ours, theirs);
+    say!("{:<44} {:>8.3} ns per {what}", ours.0, medians.ours);
+    say!("{:<44} {:>8.3} ns per {what}", theirs.0, medians.theirs);
+    say!("{:<44} {:>8.3}\n", "median of the ratios", medians.ratio);
 }

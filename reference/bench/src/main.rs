@@ -1,42 +1,60 @@
 //! Times the proved library against ordinary Rust on the same input.
 #![forbid(unsafe_code)]
 
+mod blocks;
 mod contest;
+mod inputs;
+mod letters;
 mod packets;
 mod reading;
 mod schedule;
 mod sending;
 mod stepping;
+mod texts;
 
 use std::env;
 use std::process::ExitCode;
 
 use compare::say;
 use contest::ROUNDS;
-use packets::Packets;
+use inputs::{named, SEED};
 use schedule::Schedule;
 use sending::Line;
 use stewpigeon::{Sender, Settings};
 
-const SEED: u64 = 4103;
-const PACKETS: usize = 1_000_000;
+/// The packets of a line or a mixture where they are timed, and where their
+/// instructions are counted.
+const TIMED: usize = 1_000_000;
+const COUNTED: usize = 20_000;
 
 const OFTEN: (u64, u64) = (Schedule::OFTEN, 500_000);
 const SELDOM: (u64, u64) = (Schedule::SELDOM, 200_000);
 
 const USAGE: &str = "\
 usage: bench
+       bench reading|texts
        bench offers|sending|quiet LEVEL TIMES
-LEVEL is 0 to 4.";
+       bench text|read KIND TIMES
+LEVEL is 0 to 4. KIND is the first word of a row that `bench texts` prints; for
+read also mixed and line.";
 
 fn schedule((pace, calls): (u64, u64)) -> Schedule {
     Schedule::new(SEED, pace, calls)
 }
 
-fn times() {
+fn timed(parts: &[fn()]) {
     say!("seed {SEED}, {ROUNDS} rounds after a warm-up, both sides in turn\n");
-    reading::packets(&Packets::mixed(SEED, PACKETS));
-    stepping::steps(&Packets::line(SEED, PACKETS));
+    for part in parts {
+        part();
+    }
+}
+
+fn reading() {
+    reading::packets(&packets::mixed(SEED, TIMED));
+    stepping::steps(&packets::line(SEED, TIMED));
+}
+
+fn sending() {
     for level in [2, Sender::LEVEL] {
         for pace in [OFTEN, SELDOM] {
             for rate in [Settings::HIGHEST_RATE, Settings::RATE] {
@@ -49,13 +67,16 @@ fn times() {
             }
         }
     }
-    reading::texts();
+}
+
+fn texts() {
+    texts::times();
+    blocks::times();
 }
 
 /// Makes a sender's calls of one kind at a level, so many times over.
-fn calls(kind: &str, level: &str, times: &str) -> Option<usize> {
+fn sends(kind: &str, level: &str, times: usize) -> Option<usize> {
     let level = level.parse().ok().filter(|level| *level <= Sender::LEVEL)?;
-    let times = times.parse().ok()?;
     let line = Line {
         level,
         rate: Settings::HIGHEST_RATE,
@@ -64,12 +85,35 @@ fn calls(kind: &str, level: &str, times: &str) -> Option<usize> {
     sending::repeated(kind, &line, times)
 }
 
+/// Reads packets of one kind, so many times over.
+fn reads(kind: &str, times: usize) -> Option<usize> {
+    let packets = match kind {
+        "mixed" => packets::mixed(SEED, COUNTED),
+        "line" => packets::line(SEED, COUNTED),
+        _ => named(kind, blocks::kinds())?.inputs(),
+    };
+    Some(reading::repeated(&packets, times))
+}
+
+/// Makes calls of one kind, so many times over. Answers how many calls, letters
+/// or packets a turn has; none where the words name no kind.
+fn repeated(calls: &str, of: &str, times: &str) -> Option<usize> {
+    let times = times.parse().ok()?;
+    match calls {
+        "text" => texts::repeated(of, times),
+        "read" => reads(of, times),
+        _ => sends(calls, of, times),
+    }
+}
+
 fn main() -> ExitCode {
     let words: Vec<String> = env::args().skip(1).collect();
     let words: Vec<&str> = words.iter().map(String::as_str).collect();
     match words[..] {
-        [] => times(),
-        [kind, level, times] => match calls(kind, level, times) {
+        [] => timed(&[reading, sending, texts]),
+        ["reading"] => timed(&[reading]),
+        ["texts"] => timed(&[texts]),
+        [calls, of, times] => match repeated(calls, of, times) {
             Some(count) => say!("{count}"),
             None => return usage(),
         },

@@ -1,57 +1,22 @@
-//! The packets that are timed, in one buffer.
+//! Packets as they come: of all kinds, and of one line.
 
+use crate::inputs::Inputs;
+use crate::letters::letter;
 use compare::damage::mutate;
 use compare::plan::{Plan, RED, T140};
 use compare::random::Random;
 
-pub struct Packets {
-    bytes: Vec<u8>,
-    /// Where each packet ends.
-    ends: Vec<usize>,
+/// Packets that have nothing to do with each other.
+pub fn mixed(seed: u64, count: usize) -> Inputs {
+    let mut random = Random::new(seed);
+    Inputs::of(count, || packet(&mut random))
 }
 
-impl Packets {
-    /// Packets that have nothing to do with each other.
-    pub fn mixed(seed: u64, count: usize) -> Packets {
-        let mut random = Random::new(seed);
-        Packets::of(count, || packet(&mut random))
-    }
-
-    /// Packets of one line, in the order of arrival.
-    pub fn line(seed: u64, count: usize) -> Packets {
-        let mut random = Random::new(seed);
-        let mut number = 65_000;
-        Packets::of(count, || arrival(&mut random, &mut number))
-    }
-
-    fn of(count: usize, mut packet: impl FnMut() -> Vec<u8>) -> Packets {
-        let mut packets = Packets {
-            bytes: vec![],
-            ends: Vec::with_capacity(count),
-        };
-        for _ in 0..count {
-            packets.bytes.extend(packet());
-            packets.ends.push(packets.bytes.len());
-        }
-        packets
-    }
-
-    pub fn count(&self) -> usize {
-        self.ends.len()
-    }
-
-    pub fn iter(&self) -> impl Iterator<Item = &[u8]> {
-        let mut start = 0;
-        self.ends.iter().map(move |end| {
-            let packet = &self.bytes[start..*end];
-            start = *end;
-            packet
-        })
-    }
-
-    pub fn average(&self) -> f64 {
-        self.bytes.len() as f64 / self.ends.len() as f64
-    }
+/// Packets of one line, in the order of arrival.
+pub fn line(seed: u64, count: usize) -> Inputs {
+    let mut random = Random::new(seed);
+    let mut number = 65_000;
+    Inputs::of(count, || arrival(&mut random, &mut number))
 }
 
 /// 60 in 100 typed RED, 20 T140, 10 longer, 10 damaged.
@@ -139,15 +104,7 @@ fn longer(random: &mut Random) -> Plan {
 
 /// Up to so many letters, nine of ten of them ASCII.
 fn letters(random: &mut Random, most: usize) -> Vec<u8> {
-    let mut text = String::new();
-    for _ in 0..random.within(0, most) {
-        let letter = match random.below(30) {
-            0 => 'é',
-            1 => '€',
-            2 => '😀',
-            _ => char::from(random.within(0x20, 0x7e) as u8),
-        };
-        text.push(letter);
-    }
+    let count = random.within(0, most);
+    let text: String = (0..count).map(|_| letter(random, 10)).collect();
     text.into_bytes()
 }

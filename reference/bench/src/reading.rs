@@ -1,11 +1,11 @@
-//! Single packets and texts.
+//! Single packets.
 
-use crate::contest::{add, contest, timed};
-use crate::packets::Packets;
+use crate::contest::{add, contest, passes, timed};
+use crate::inputs::Inputs;
 use compare::say;
 use stewpigeon::lent;
 
-fn proved(packets: &Packets) -> u64 {
+pub fn proved(packets: &Inputs) -> u64 {
     let mut sum = 0;
     let mut answer = lent::Packet::ZERO;
     for packet in packets.iter() {
@@ -30,7 +30,7 @@ fn independent_read(packet: &[u8]) -> Result<independent::Packet<'_>, u8> {
     independent::read(None, 98, 100, packet)
 }
 
-fn independent(packets: &Packets) -> u64 {
+pub fn independent(packets: &Inputs) -> u64 {
     let mut sum = 0;
     for packet in packets.iter() {
         let mut figure = 0;
@@ -51,7 +51,7 @@ fn independent(packets: &Packets) -> u64 {
     sum
 }
 
-pub fn packets(packets: &Packets) {
+pub fn packets(packets: &Inputs) {
     let accepted = packets
         .iter()
         .filter(|packet| independent_read(packet).is_ok());
@@ -70,40 +70,10 @@ pub fn packets(packets: &Packets) {
     );
 }
 
-fn proved_text(text: &[u8]) -> u64 {
-    let mut answer = lent::TextAnswer::ZERO;
-    lent::text_into(text, &mut answer);
-    assert_eq!(answer.is_text, 1);
-    answer.characters as u64
-}
-
-#[inline(never)]
-fn standard_check(text: &[u8]) -> u64 {
-    std::str::from_utf8(text).map_or(0, |text| text.len() as u64)
-}
-
-#[inline(never)]
-fn standard_count(text: &[u8]) -> u64 {
-    std::str::from_utf8(text).map_or(0, |text| text.chars().count() as u64)
-}
-
-const LETTERS: usize = 1_000_000;
-
-pub fn texts() {
-    let letters: Vec<u8> = (b'a'..=b'z').cycle().take(LETTERS).collect();
-    let letters = letters.as_slice();
-    say!("TEXT: {LETTERS} plain letters\n");
-    for (name, standard) in [
-        ("from_utf8: checks", standard_check as fn(&[u8]) -> u64),
-        ("from_utf8 and chars().count()", standard_count),
-    ] {
-        contest(
-            LETTERS,
-            "letter",
-            ("stewpigeon_text, proved: checks and counts", &|| {
-                timed(proved_text, letters)
-            }),
-            (name, &|| timed(standard, letters)),
-        );
-    }
+/// Reads packets so many times over by both programs, for whoever counts
+/// instructions. Answers how many packets a turn has.
+pub fn repeated(packets: &Inputs, times: usize) -> usize {
+    let [ours, theirs] = [proved, independent].map(|read| passes(times, read, packets).sum);
+    assert_eq!(ours, theirs, "the answers differ");
+    packets.count()
 }

@@ -1,7 +1,7 @@
 //! A receiver over one line of packets.
 
 use crate::contest::{add, contest, timed};
-use crate::packets::Packets;
+use crate::inputs::Inputs;
 use compare::say;
 use independent::receiver::{Answer, Receiver};
 use stewpigeon::lent;
@@ -13,7 +13,7 @@ fn figure(step: &lent::Step) -> u64 {
     late + 3 * u64::from(step.loss) + 5u64.wrapping_mul(distance) + blocks as u64
 }
 
-fn proved(packets: &Packets) -> u64 {
+fn proved(packets: &Inputs) -> u64 {
     let mut receiver = lent::Receiver::ZERO;
     assert_eq!(lent::receiver_open(&mut receiver, 98, 100), 0);
     let mut step = lent::Step::ZERO;
@@ -33,7 +33,7 @@ fn independent_step<'a>(receiver: &mut Receiver, packet: &'a [u8]) -> Answer<'a>
     receiver.step(packet)
 }
 
-fn independent(packets: &Packets) -> u64 {
+fn independent(packets: &Inputs) -> u64 {
     let mut receiver = Receiver::open(98, 100).expect("good payload types");
     let mut sum = 0;
     for packet in packets.iter() {
@@ -60,7 +60,7 @@ fn independent(packets: &Packets) -> u64 {
 }
 
 /// How many packets are forward, late and refused.
-fn counts(packets: &Packets) -> [usize; 3] {
+fn counts(packets: &Inputs) -> [usize; 3] {
     let mut receiver = Receiver::open(98, 100).expect("good payload types");
     let mut counts = [0; 3];
     for packet in packets.iter() {
@@ -74,7 +74,7 @@ fn counts(packets: &Packets) -> [usize; 3] {
     counts
 }
 
-pub fn steps(packets: &Packets) {
+pub fn steps(packets: &Inputs) {
     let [forward, late, refused] = counts(packets);
     say!(
         "RECEIVING: read and step over {} packets of one line, {:.1} bytes on average:\n\
