@@ -104,6 +104,12 @@ static void refusals(void)
     EXPECT(changed(38, 0xFF, all) == STEWPIGEON_REFUSED_BLOCK_TEXT);
 }
 
+#define A15 "AAAAAAAAAAAAAAA"
+#define A63 A15 "A" A15 "A" A15 "A" A15
+#define A64 A63 "A"
+#define B16 "BBBBBBBBBBBBBBBB"
+#define B64 B16 B16 B16 B16
+
 static void text(const char *bytes, size_t length, uint8_t is_text, size_t characters, size_t place)
 {
     struct guarded_text_answer answer;
@@ -125,4 +131,13 @@ void layout_of_the_reader(void)
     text("\xFF", 1, 0, 0, 0);
     text("A\xED\xA0\x80", 4, 0, 0, 2);
     text("AB\xE2\x82", 4, 0, 0, 4);
+    text("\x7F", 1, 1, 1, 0);
+    text("\x80", 1, 0, 0, 0);
+    text(A64, 64, 1, 64, 0);
+    text(A63 "\x80", 64, 0, 0, 63);
+    text(A64 "\xC3", 65, 0, 0, 65);
+    text(A64 "\xC3\xA5", 66, 1, 65, 0);
+    text(A63 "\xC3\xA5" B64, 129, 1, 128, 0);
+    text("\xE2\x82" A64, 66, 0, 0, 2);
+    text(A64 A63 "\xFF", 128, 0, 0, 127);
 }

@@ -156,8 +156,13 @@ pub fn check(random: &mut Random, case: &Case) -> Result<u8, Difference> {
     Err(Difference { what, details })
 }
 
-/// Gives a text to both UTF-8 checks and the standard library's.
-pub fn check_text(random: &mut Random, text: &[u8]) -> Result<bool, Difference> {
+/// Gives a text to both UTF-8 checks and the standard library's, and says
+/// whether it is UTF-8. What is known are its characters or its bad place.
+pub fn check_text(
+    random: &mut Random,
+    text: &[u8],
+    known: Option<Result<usize, usize>>,
+) -> Result<bool, Difference> {
     let independent = independent::text(text);
     let standard = std::str::from_utf8(text).map(|text| text.chars().count());
     let wanted = lent::TextAnswer {
@@ -177,11 +182,16 @@ pub fn check_text(random: &mut Random, text: &[u8]) -> Result<bool, Difference> 
         "the proved check changed bytes around the answer"
     } else if *black_box(&bytes) != before.0 {
         "the proved check changed bytes of the text or around it"
+    } else if known.is_some_and(|known| known != independent) {
+        "both checks agree, but not with what is known of the text"
     } else {
         return Ok(independent.is_ok());
     };
     let details = format!(
-        "text ({} bytes): {}\nproved:      {:?}\nindependent: {wanted:?}",
+        "text ({} bytes): {}\n\
+         proved:      {:?}\n\
+         independent: {wanted:?}\n\
+         known:       {known:?}",
         text.len(),
         hex(text),
         lent.value(),

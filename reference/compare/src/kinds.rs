@@ -4,7 +4,7 @@ use crate::check::{Case, Known};
 use crate::damage;
 use crate::plan::{Plan, LONGEST, RED, T140};
 use crate::random::Random;
-use crate::{captures, shapes};
+use crate::{captures, plain_packets, shapes};
 use independent::offsets;
 
 pub struct Kind {
@@ -16,7 +16,7 @@ const fn kind(name: &'static str, batch: fn(&mut Random) -> Vec<Case>) -> Kind {
     Kind { name, batch }
 }
 
-pub const KINDS: [Kind; 20] = [
+pub const KINDS: [Kind; 25] = [
     kind("valid T140", valid_t140),
     kind("valid RED, 0 to 4 older blocks", valid_red),
     kind("mutated", mutated),
@@ -37,6 +37,14 @@ pub const KINDS: [Kind; 20] = [
     kind("random payload", random_payload),
     kind("prefixes of the captures", capture_prefixes),
     kind("mutated captures", mutated_captures),
+    kind("bad bytes in plain text", plain_packets::bad_bytes),
+    kind("cut letters in plain text", plain_packets::cut_letters),
+    kind(
+        "letters parted by plain text",
+        plain_packets::parted_letters,
+    ),
+    kind("letters in plain text", plain_packets::whole_letters),
+    kind("letters at ends of blocks", plain_packets::letters_at_ends),
 ];
 
 fn valid_t140(random: &mut Random) -> Vec<Case> {

@@ -113,7 +113,7 @@ impl Plan {
     }
 
     /// Now and then a source list, an extension and padding.
-    fn dress(&mut self, random: &mut Random) {
+    pub fn dress(&mut self, random: &mut Random) {
         if random.once_in(5) {
             self.add_sources(random);
         }

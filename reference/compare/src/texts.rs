@@ -2,6 +2,7 @@
 
 use crate::check::check_text;
 use crate::damage::{mutate, BAD};
+use crate::plain_texts;
 use crate::random::Random;
 
 /// What was given of a kind, and how much of it was UTF-8.
@@ -11,13 +12,13 @@ pub struct Count {
     pub good: usize,
 }
 
-struct Counter<'a> {
-    random: &'a mut Random,
+pub struct Counter<'a> {
+    pub random: &'a mut Random,
     counts: Vec<Count>,
 }
 
 impl Counter<'_> {
-    fn kind(&mut self, name: &'static str) {
+    pub fn kind(&mut self, name: &'static str) {
         self.counts.push(Count {
             name,
             texts: 0,
@@ -26,9 +27,19 @@ impl Counter<'_> {
     }
 
     fn give(&mut self, text: &[u8]) -> Result<(), String> {
+        self.check(text, None)
+    }
+
+    /// Gives a text of which the number of characters or the place of the
+    /// first bad byte is known.
+    pub fn give_known(&mut self, text: &[u8], known: Result<usize, usize>) -> Result<(), String> {
+        self.check(text, Some(known))
+    }
+
+    fn check(&mut self, text: &[u8], known: Option<Result<usize, usize>>) -> Result<(), String> {
         let count = self.counts.last_mut().expect("a kind is set");
         count.texts += 1;
-        let good = check_text(self.random, text)
+        let good = check_text(self.random, text, known)
             .map_err(|difference| format!("texts, {} {}: {difference}", count.name, count.texts))?;
         count.good += usize::from(good);
         Ok(())
@@ -51,6 +62,7 @@ pub fn run(random: &mut Random, times: usize) -> Result<Vec<Count>, String> {
     at_the_bounds(&mut counter)?;
     every_character(&mut counter)?;
     at_random(&mut counter, times)?;
+    plain_texts::give(&mut counter)?;
     Ok(counter.counts)
 }
 

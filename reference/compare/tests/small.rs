@@ -1,4 +1,6 @@
 use compare::calls::tally::{Answer, Call, Tally};
+use compare::check::check_text;
+use compare::random::Random;
 use compare::run::run;
 use compare::{calls, captures};
 
@@ -11,6 +13,16 @@ fn no_difference_in_a_small_run() {
 #[test]
 fn the_captures_are_as_described() {
     captures::facts().unwrap();
+}
+
+#[test]
+fn what_is_known_of_a_text_is_held() {
+    for (text, characters) in [(&b"AB"[..], 2), (b"A\xc3\xa5", 2), (b"A\xff", 1)] {
+        let good = check_text(&mut Random::new(1), text, Some(Ok(characters)));
+        assert_eq!(good.is_ok(), text != b"A\xff");
+        let place = check_text(&mut Random::new(1), text, Some(Err(characters)));
+        assert_eq!(place.is_ok(), text == b"A\xff");
+    }
 }
 
 #[test]

@@ -1,0 +1,116 @@
+//! Texts of plain letters in which others interrupt the runs of them.
+
+use crate::letters::{lay, plain, Letter, BYTES, CUT, WHOLE, WRONG};
+use crate::texts::Counter;
+
+const LONGEST: usize = 200;
+
+/// Gives all kinds of these texts.
+pub fn give(counter: &mut Counter<'_>) -> Result<(), String> {
+    plain_alone(counter)?;
+    at_every_place(counter, "plain text, a bad byte at every place", &BYTES)?;
+    at_every_place(counter, "plain text, a letter at every place", &WHOLE)?;
+    at_every_place(counter, "plain text, a cut letter at every place", &CUT)?;
+    at_every_place(counter, "plain text, a wrong letter at every place", &WRONG)?;
+    parted_letters(counter)?;
+    two_letters(counter)
+}
+
+/// Every plain letter at every place of every length.
+fn plain_alone(counter: &mut Counter<'_>) -> Result<(), String> {
+    counter.kind("plain text of 0 to 200 bytes");
+    for length in 0..=LONGEST {
+        for first in 0..0x80 {
+            let text: Vec<u8> = (first..).take(length).map(|k| (k % 0x80) as u8).collect();
+            counter.give_known(&text, Ok(length))?;
+        }
+    }
+    Ok(())
+}
+
+/// Texts of every length with these letters at every place: each of them
+/// near the end and where the length is near a bound of runs, else one in
+/// four by turns.
+fn at_every_place(
+    counter: &mut Counter<'_>,
+    name: &'static str,
+    letters: &[Letter],
+) -> Result<(), String> {
+    counter.kind(name);
+    for length in 0..=LONGEST {
+        let plain = plain(counter.random, length);
+        let near = [16_usize, 32, 64, 128, LONGEST]
+            .iter()
+            .any(|bound| bound.abs_diff(length) <= 3);
+        for place in 0..length {
+            let step = if near || place + 4 >= length { 1 } else { 4 };
+            for letter in letters.iter().skip((length + place) % step).step_by(step) {
+                if place + letter.bytes.len() <= length {
+                    give_with(counter, &plain, &[(place, *letter)])?;
+                }
+            }
+        }
+    }
+    Ok(())
+}
+
+/// Letters whose bytes are parted by so many plain ones.
+fn parted_letters(counter: &mut Counter<'_>) -> Result<(), String> {
+    counter.kind("plain text, in it a letter parted by a run");
+    for run in 1..=LONGEST {
+        for letter in WHOLE {
+            for cut in 1..letter.bytes.len() {
+                let (head, tail) = letter.bytes.split_at(cut);
+                let (before, behind) = (counter.random.below(80), counter.random.below(80));
+                let plain = plain(counter.random, before + run + behind);
+                let (start, rest) = plain.split_at(before);
+                let (middle, end) = rest.split_at(run);
+                let text = [start, head, middle, tail, end].concat();
+                counter.give_known(&text, Err(before + cut))?;
+            }
+        }
+    }
+    Ok(())
+}
+
+/// Two letters at every two places, the first of them most often whole.
+fn two_letters(counter: &mut Counter<'_>) -> Result<(), String> {
+    counter.kind("plain text, letters at every two places");
+    let any = [&WHOLE[..], &BYTES, &CUT, &WRONG].concat();
+    for length in [65, 130, LONGEST] {
+        let plain = plain(counter.random, length);
+        for first in 0..length {
+            for second in first + 1..length {
+                let one = match counter.random.once_in(8) {
+                    true => counter.random.pick(&any),
+                    false => counter.random.pick(&WHOLE),
+                };
+                let other = counter.random.pick(&any);
+                // A cut letter may be mended by what follows it at once.
+                let end = first + one.bad.map_or(0, |bad| bad + 1).max(one.bytes.len());
+                if end <= second && second + other.bytes.len() <= length {
+                    give_with(counter, &plain, &[(first, one), (second, other)])?;
+                }
+            }
+        }
+    }
+    Ok(())
+}
+
+/// Gives the plain text with these letters laid over it at their places.
+fn give_with(
+    counter: &mut Counter<'_>,
+    plain: &[u8],
+    letters: &[(usize, Letter)],
+) -> Result<(), String> {
+    let mut text = plain.to_vec();
+    let mut known = Ok(plain.len());
+    for (place, letter) in letters {
+        lay(&mut text, *place, letter.bytes);
+        known = known.and_then(|characters| match letter.bad {
+            Some(bad) => Err(place + bad),
+            None => Ok(characters - letter.bytes.len() + 1),
+        });
+    }
+    counter.give_known(&text, known)
+}
