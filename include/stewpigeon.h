@@ -19,7 +19,7 @@
 /* The version: all else that names it is made from this, or held to it. */
 #define STEWPIGEON_VERSION_MAJOR 0
 #define STEWPIGEON_VERSION_MINOR 3
-#define STEWPIGEON_VERSION_PATCH 0
+#define STEWPIGEON_VERSION_PATCH 1
 
 #ifdef __cplusplus
 extern "C" {
