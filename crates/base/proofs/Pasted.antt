@@ -6,6 +6,7 @@ use native.Mathlib.Omega.{arith}
 use borrow.Rule.Slice.PartMut.{putMid, midOf}
 use lib.ListN.{length, take, drop, drop-of-length-le, length-drop}
 use lib.Seq.{take-all, drop-drop, paste, take-paste, drop-paste, length-paste}
+use Rattle.base.proofs.Slices.{mid-rest}
 
 -- the part behind a was lent, and x copied to its front
 module _ (p x ys p' : List ℕ) (a n : ℕ) (room : a + n ≤ length p) (size : length x ≡ n)
@@ -17,7 +18,7 @@ module _ (p x ys p' : List ℕ) (a n : ℕ) (room : a + n ≤ length p) (size : 
       let g : ys ≡ take n x ++ drop (a + n) p =
       f
       ∙ ap (λ (k : ℕ). take k x ++ drop k (midOf a (length p - a) p)) size
-      ∙ ap (λ (l : List ℕ). take n x ++ drop n l) (take-all (length p - a) (drop a p) le)
+      ∙ ap (λ (l : List ℕ). take n x ++ drop n l) (mid-rest a p)
       ∙ ap (λ (l : List ℕ). take n x ++ l) (drop-drop n a p) in
       e
       ∙ ap (λ (l : List ℕ). take a p ++ (ys ++ l)) (drop-of-length-le (drop a p) le)

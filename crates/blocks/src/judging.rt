@@ -46,8 +46,8 @@ fn judge_text(
 {
     let len = end - first;
     if 64 <= len {
-        let plain = text::plain_end(&packet[first..end]);
-        if plain == len {
+        let run = text::plain_end(&packet[first..end]);
+        if run == len {
             return Outcome::Accepted;
         }
     }

@@ -10,6 +10,7 @@ use lib.ListN.{length, drop, length-drop, length-append}
 use lib.Seq.{drop-drop}
 use Rattle.base.specs.Arrays.{over}
 use Rattle.base.proofs.Lent.{length-over, wrote}
+use Rattle.base.proofs.Slices.{mid-rest}
 use Rattle.base.proofs.Tests.{and-left}
 use Rattle.journal_spec.specs.Contents.{longestPacket}
 use Rattle.standing.specs.Standing.{Standing, hungry, takeOf, usedOf, giveOf, givenOf}
@@ -17,7 +18,6 @@ use Rattle.standing.specs.Filling.{Fill, reads, lastTurn, afterTurn, fillOf}
 use Rattle.standing.proofs.HowFar.{given-fits, used-fits}
 use Rattle.standing.proofs.Filling.{turnsLeft, turn-less, fill-on, fill-ends}
 use Rattle.journal.specs.declared.Transcript.{Transcript}
-use Rattle.base.proofs.Slices.{mid-rest}
 use Rattle.journal.specs.Ready.{standingOf, transcriptReady, hungryNow, Takes, Fills}
 use Rattle.journal.proofs.Ready.{hungry-is}
 use Rattle.journal.proofs.GiveLeaves.{Gives}
@@ -25,9 +25,6 @@ use Rattle.journal.proofs.GiveLeaves.{Gives}
 -- what is lent from a place on
 abbrev pub from : ℕ → List ℕ → List ℕ
 from at l = midOf at (length l - at) l
-
-pub from-is : (at : ℕ) (l : List ℕ) → from at l ≡ drop at l
-from-is = mid-rest
 
 -- `fill` on s₀, the lent p₀, the bytes x₀ and the space y₀
 module _ (s₀ : Transcript) (p₀ x₀ y₀ : List ℕ) where
@@ -73,7 +70,7 @@ module _ (s₀ : Transcript) (p₀ x₀ y₀ : List ℕ) where
     room = length y₀ - count
 
     room-is : length (from count y) ≡ room
-    room-is = ap length (from-is count y) ∙ length-drop count y ∙ ap (λ (k : ℕ). k - count) space-same
+    room-is = ap length (mid-rest count y) ∙ length-drop count y ∙ ap (λ (k : ℕ). k - count) space-same
 
     -- a turn gave n bytes
     module _ (s₁ : Transcript) (y₁ : List ℕ) (n : ℕ) (g : Gives s p (from count y) s₁ y₁ n) where
@@ -131,10 +128,10 @@ module _ (s₀ : Transcript) (p₀ x₀ y₀ : List ℕ) where
           d = giveOf c room
 
           then-stands : standingOf s₂ p₂ ≡ takeOf d x
-          then-stands = t .stands ∙ (λ i. takeOf (now-stands i) (from-is used x₀ i))
+          then-stands = t .stands ∙ (λ i. takeOf (now-stands i) (mid-rest used x₀ i))
 
           then-uses : more ≡ usedOf d x
-          then-uses = t .uses ∙ (λ i. usedOf (now-stands i) (from-is used x₀ i))
+          then-uses = t .uses ∙ (λ i. usedOf (now-stands i) (mid-rest used x₀ i))
 
           pub took-fits : used + more ≤ length x₀
           took-fits = omega (arith, then-uses, used-fits d x, length-drop used x₀, w .uses)

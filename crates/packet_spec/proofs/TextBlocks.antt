@@ -14,6 +14,6 @@ pub text-first : (h : Head) (hs : List Head) (s : List ℕ) → areText (h ∷ h
 text-first h hs s =
     ap (λ (q : List ℕ). isText (take (h .len) s) && allText (blocksOf (olderOf hs (drop (h .len) s)) q)) (sym (drop-drop (total hs) (h .len) s))
 
-pub plain-blocks : (hs : List Head) (s : List ℕ) → Plain s → areText hs s ≡ true
-plain-blocks [] s p = rw (plain-text s p)
-plain-blocks (h ∷ hs) s p = text-first h hs s ∙ rw (plain-text (take (h .len) s) (plain-take (h .len) s p)) (plain-blocks hs (drop (h .len) s) (plain-drop (h .len) s p))
+pub plain-letters-text : (hs : List Head) (s : List ℕ) → Plain s → areText hs s ≡ true
+plain-letters-text [] s p = rw (plain-text s p)
+plain-letters-text (h ∷ hs) s p = text-first h hs s ∙ rw (plain-text (take (h .len) s) (plain-take (h .len) s p)) (plain-letters-text hs (drop (h .len) s) (plain-drop (h .len) s p))

@@ -1,2 +1,1 @@
 pub mod Owes
-pub mod PlainIn

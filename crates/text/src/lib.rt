@@ -65,7 +65,7 @@ pub fn step(owed: Owed, byte: u8) -> Walked
     })
 }
 
-// The first byte of a letter.
+// What a letter's first byte leads to.
 pub fn lead(byte: u8) -> Walked
     ensures { λ r. ⌜ walked r ≡ owedAfter [] byte ⌝ }
 {

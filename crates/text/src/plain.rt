@@ -5,7 +5,7 @@ ghost use Prim.Native.Nat.{ℕ, _+_, _<_, _≤_};
 ghost use lib.ListN.{length, getD};
 
 // 0 of a plain letter, 1 of another byte.
-fn high(byte: u8) -> u8
+fn high_bit(byte: u8) -> u8
     ensures { λ r. ⌜ (r ≤ 1) × (r ≡ 0 → byte < 0x80) ⌝ }
 {
     byte / 0x80
@@ -19,7 +19,7 @@ fn are_plain(bytes: &[u8], at: usize) -> bool
     let mut sum: u8 = 0;
     let mut j: usize = 0;
     while j < 32 {
-        sum += high(bytes[at + j]);
+        sum += high_bit(bytes[at + j]);
         j += 1;
     }
     sum == 0

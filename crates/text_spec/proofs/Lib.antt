@@ -1,6 +1,7 @@
 pub mod Rows
 pub mod Table
 pub mod Walks
+pub mod PlainIn
 pub mod Plain
 pub mod PlainTests
 pub mod WellFormed

@@ -14,10 +14,10 @@ abbrev pub Plain : List ℕ → Type 0
 Plain [] = Unit {0}
 Plain (b ∷ s) = (b < 0x80) × Plain s
 
-pub plain-front : (n : ℕ) (s : List ℕ) → ((k : ℕ) → k < n → getD s k 0 < 0x80) → Plain (take n s)
-plain-front zero s f = _
-plain-front (suc n) [] f = _
-plain-front (suc n) (b ∷ s) f = (f 0 (omega arith), plain-front n s (λ k h. f (suc k) (omega arith)))
+pub plain-upto : (n : ℕ) (s : List ℕ) → ((k : ℕ) → k < n → getD s k 0 < 0x80) → Plain (take n s)
+plain-upto zero s f = _
+plain-upto (suc n) [] f = _
+plain-upto (suc n) (b ∷ s) f = (f 0 (omega arith), plain-upto n s (λ k h. f (suc k) (omega arith)))
 
 pub plain-take : (n : ℕ) (s : List ℕ) → Plain s → Plain (take n s)
 plain-take zero s h = _

@@ -5,36 +5,36 @@ use mathlib.Core.List.{List, [], _∷_, _++_}
 use lib.ListN.{replicate}
 use Rattle.text_spec.specs.Utf8.{Text, Characters, Stops, textOf}
 
-pub record Row : Type 0 where
+pub record Case : Type 0 where
   pub bytes : List ℕ
   pub text : Text
 
 infixl 20 _is_
-abbrev pub _is_ : List ℕ → Text → Row
+abbrev pub _is_ : List ℕ → Text → Case
 s is t = record { bytes = s; text = t }
 
-abbrev pub Holds : List Row → Type 0
+abbrev pub Holds : List Case → Type 0
 Holds [] = Unit {0}
-Holds (row ∷ rows) = (textOf (row .bytes) ≡ row .text) × Holds rows
+Holds (c ∷ cs) = (textOf (c .bytes) ≡ c .text) × Holds cs
 
 -- so many times 41 hex
-abbrev pub plain : ℕ → List ℕ
-plain n = replicate n 0x41
+abbrev pub letters : ℕ → List ℕ
+letters n = replicate n 0x41
 
-unfoldable pub rows : List Row
-rows =
+unfoldable pub cases : List Case
+cases =
     ([] is Characters 0)
     ∷ (0x7F ∷ [] is Characters 1)
     ∷ (0x80 ∷ [] is Stops 0)
-    ∷ (plain 64 is Characters 64)
-    ∷ (plain 63 ++ (0x80 ∷ []) is Stops 63)
-    ∷ (plain 64 ++ (0xC3 ∷ []) is Stops 65)
-    ∷ (plain 64 ++ (0xC3 ∷ 0xA5 ∷ []) is Characters 65)
-    ∷ (plain 63 ++ (0xC3 ∷ 0xA5 ∷ []) ++ replicate 64 0x42 is Characters 128)
-    ∷ (0xE2 ∷ 0x82 ∷ plain 64 is Stops 2)
-    ∷ (plain 127 ++ (0xFF ∷ []) is Stops 127)
+    ∷ (letters 64 is Characters 64)
+    ∷ (letters 63 ++ (0x80 ∷ []) is Stops 63)
+    ∷ (letters 64 ++ (0xC3 ∷ []) is Stops 65)
+    ∷ (letters 64 ++ (0xC3 ∷ 0xA5 ∷ []) is Characters 65)
+    ∷ (letters 63 ++ (0xC3 ∷ 0xA5 ∷ []) ++ replicate 64 0x42 is Characters 128)
+    ∷ (0xE2 ∷ 0x82 ∷ letters 64 is Stops 2)
+    ∷ (letters 127 ++ (0xFF ∷ []) is Stops 127)
     ∷ []
 
-pub plain-tests : Holds rows
-unfolding rows
+pub plain-tests : Holds cases
+unfolding cases
 plain-tests = (refl, (refl, (refl, (refl, (refl, (refl, (refl, (refl, (refl, (refl, tt))))))))))

@@ -93,65 +93,63 @@ fn border(random: &mut Random, length: usize) -> usize {
     }
 }
 
-/// A byte that no letter begins with, at each place.
+/// What a plain packet and a place in one of its blocks lead to, for every
+/// place of all packets.
+fn at_each_place(
+    random: &mut Random,
+    case: impl Fn(&mut Random, &Plain, &Range<usize>, usize) -> Option<Case>,
+) -> Vec<Case> {
+    let mut cases = vec![];
+    for plain in Plain::all(random) {
+        for block in &plain.blocks {
+            for place in block.clone() {
+                cases.extend(case(random, &plain, block, place));
+            }
+        }
+    }
+    cases
+}
+
+/// A byte that no letter begins with.
 pub fn bad_bytes(random: &mut Random) -> Vec<Case> {
-    let mut cases = vec![];
-    for plain in Plain::all(random) {
-        for place in plain.blocks.iter().cloned().flatten() {
-            let byte = random.pick(&BYTES).bytes;
-            cases.push(plain.bad(random, place, byte));
-        }
-    }
-    cases
+    at_each_place(random, |random, plain, _, place| {
+        let byte = random.pick(&BYTES).bytes;
+        Some(plain.bad(random, place, byte))
+    })
 }
 
-/// A letter at each place that is cut by plain ones or by its block's end.
+/// A letter that is cut by plain ones or by its block's end.
 pub fn cut_letters(random: &mut Random) -> Vec<Case> {
-    let mut cases = vec![];
-    for plain in Plain::all(random) {
-        for block in &plain.blocks {
-            for place in block.clone() {
-                let cut = random.pick(&CUT).bytes;
-                let fits = cut.len().min(block.end - place);
-                cases.push(plain.bad(random, place, &cut[..fits]));
-            }
-        }
-    }
-    cases
+    at_each_place(random, |random, plain, block, place| {
+        let cut = random.pick(&CUT).bytes;
+        let fits = cut.len().min(block.end - place);
+        Some(plain.bad(random, place, &cut[..fits]))
+    })
 }
 
-/// A letter from each place on whose bytes are parted by plain ones.
+/// A letter whose bytes are parted by plain ones, where the block has room.
 pub fn parted_letters(random: &mut Random) -> Vec<Case> {
-    let mut cases = vec![];
-    for plain in Plain::all(random) {
-        for block in &plain.blocks {
-            for place in block.clone() {
-                let letter = random.pick(&WHOLE).bytes;
-                let (head, tail) = letter.split_at(random.within(1, letter.len() - 1));
-                let room = (block.end - place).saturating_sub(letter.len());
-                let any = random.within(0, room);
-                let run = random.pick(&[16, 32, 64, any, any, any]).min(room);
-                if run > 0 {
-                    let mut case = plain.bad(random, place, head);
-                    lay(&mut case.packet, place + head.len() + run, tail);
-                    cases.push(case);
-                }
-            }
+    at_each_place(random, |random, plain, block, place| {
+        let letter = random.pick(&WHOLE).bytes;
+        let (head, tail) = letter.split_at(random.within(1, letter.len() - 1));
+        let room = (block.end - place).saturating_sub(letter.len());
+        let any = random.within(0, room);
+        let run = random.pick(&[16, 32, 64, any, any, any]).min(room);
+        if run == 0 {
+            return None;
         }
-    }
-    cases
+        let mut case = plain.bad(random, place, head);
+        lay(&mut case.packet, place + head.len() + run, tail);
+        Some(case)
+    })
 }
 
-/// A letter at each place, be it inside a block or not.
+/// A whole letter, be it inside a block or not.
 pub fn whole_letters(random: &mut Random) -> Vec<Case> {
-    let mut cases = vec![];
-    for plain in Plain::all(random) {
-        for place in plain.blocks.iter().cloned().flatten() {
-            let letter = random.pick(&WHOLE);
-            cases.extend(plain.whole(random, place, letter));
-        }
-    }
-    cases
+    at_each_place(random, |random, plain, _, place| {
+        let letter = random.pick(&WHOLE);
+        plain.whole(random, place, letter)
+    })
 }
 
 /// Each letter wherever it touches the end of a block or lies across it.

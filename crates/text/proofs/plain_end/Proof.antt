@@ -3,7 +3,7 @@ use native.Mathlib.Omega.{arith}
 use lib.ListN.{length}
 use borrow.Author.Needs.{needs}
 use denote.Ref.{now}
-use Rattle.text.proofs.PlainIn.{PlainIn, plain-one, plain-more}
+use Rattle.text_spec.proofs.PlainIn.{PlainIn, plain-one, plain-more}
 use Rattle.text.proofs.plain_end.Statement.{statement}
 use Rattle.text.proofs.plain_end.Tie as tie
 

@@ -12,7 +12,7 @@ use Rattle.text.specs.declared.Walked.the-variants.{Next}
 use Rattle.text.specs.Owed.{walked, owes}
 use Rattle.text_spec.specs.Utf8.{Range, owedAfter, begins, textFrom, textOf}
 use Rattle.text_spec.proofs.Walks.{on-at, stops-at}
-use Rattle.text_spec.proofs.Plain.{plain-front, plain-at}
+use Rattle.text_spec.proofs.Plain.{plain-upto, plain-at}
 use Rattle.base.proofs.Slices.{mid-rest}
 use Rattle.text.proofs.Owes.{owes-none, owes-some, owes-lead, owes-plain}
 use Rattle.text.proofs.text_of.Statement.{statement}
@@ -27,12 +27,12 @@ abbrev μ-loop : tie.MeasureT-loop
 
 -- one byte more, where so many letters begin with it
 module _ (s : List ℕ) (o : Owed) (n at b : ℕ) (h : at < length s) (e : b ≡ begins (owes o)) where
-  on : (p : Owed) → owedAfter (owes o) (getD s at 0) ≡ some (owes p) → textFrom (owes o) n at (drop at s) ≡ textFrom (owes p) (n + b) (at + 1) (drop (at + 1) s)
-  on p f = on-at (owes o) n at s h f ∙ ap (λ (k : ℕ). textFrom (owes p) (n + k) (at + 1) (drop (at + 1) s)) (sym e)
+  one-more : (p : Owed) → owedAfter (owes o) (getD s at 0) ≡ some (owes p) → textFrom (owes o) n at (drop at s) ≡ textFrom (owes p) (n + b) (at + 1) (drop (at + 1) s)
+  one-more p f = on-at (owes o) n at s h f ∙ ap (λ (k : ℕ). textFrom (owes p) (n + k) (at + 1) (drop (at + 1) s)) (sym e)
 
   -- a plain one, where nothing is owed
   plain-letter : o .tails ≡ 0 → getD s at 0 < 0x80 → textFrom (owes o) n at (drop at s) ≡ textFrom (owes o) (n + b) (at + 1) (drop (at + 1) s)
-  plain-letter z g = on o (owes-plain o (getD s at 0) z g)
+  plain-letter z g = one-more o (owes-plain o (getD s at 0) z g)
 
   -- and a run of them behind it
   plain-run : o .tails ≡ 0 → getD s at 0 < 0x80 → (m : ℕ) → m ≤ length (take (length s - (at + 1)) (drop (at + 1) s))
@@ -40,7 +40,7 @@ module _ (s : List ℕ) (o : Owed) (n at b : ℕ) (h : at < length s) (e : b ≡
       → textFrom (owes o) n at (drop at s) ≡ textFrom (owes o) (n + b + m) (at + 1 + m) (drop (at + 1 + m) s)
   plain-run z g m l f =
       let d = mid-rest (at + 1) s in
-      plain-letter z g ∙ rw (owes-none o z) (plain-at s (n + b) (at + 1) m (rw d at l) (plain-front m (drop (at + 1) s) (rw d at f)))
+      plain-letter z g ∙ rw (owes-none o z) (plain-at s (n + b) (at + 1) m (rw d at l) (plain-upto m (drop (at + 1) s) (rw d at f)))
 
 fresh-requires : tie.Need-fresh-requires Inv-loop μ-loop
 fresh-requires c κs = search needs
@@ -163,7 +163,7 @@ loop-again-3 c =
       search needs,
       omega (arith, b .ensures .1),
       omega arith,
-      l .inv .3 ∙ on s (l .owed) (l .characters) (l .at) (b .result) (c .before .before .before .loop-test .taken) (b .ensures .0) (c .if1 .owed) f,
+      l .inv .3 ∙ one-more s (l .owed) (l .characters) (l .at) (b .result) (c .before .before .before .loop-test .taken) (b .ensures .0) (c .if1 .owed) f,
     )
 
 returns-3 : tie.Need-returns-3 Inv-loop μ-loop

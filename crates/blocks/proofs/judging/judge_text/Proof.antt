@@ -7,9 +7,9 @@ use lib.Seq.{slice, take-all, length-slice}
 use borrow.Author.Needs.{needs}
 use denote.Ref.{now}
 use Rattle.base.proofs.Slices.{mid-slice}
-use Rattle.text_spec.proofs.Plain.{Plain, plain-front}
+use Rattle.text_spec.proofs.Plain.{Plain, plain-upto}
 use Rattle.packet_spec.specs.Redundancy.{areText}
-use Rattle.packet_spec.proofs.TextBlocks.{plain-blocks}
+use Rattle.packet_spec.proofs.TextBlocks.{plain-letters-text}
 use Rattle.block_headers.specs.internal.Seen.{seenHeads}
 use Rattle.blocks.proofs.judging.judge_text.Statement.{statement}
 use Rattle.blocks.proofs.judging.judge_text.Tie as tie
@@ -36,8 +36,8 @@ returns c =
     let s = slice (a .first) (a .end) (now (a .packet)) in
     let q : take (a .end - a .first) (drop (a .first) (now (a .packet))) ≡ s = mid-slice (a .first) (a .end) (now (a .packet)) (omega arith) in
     let l : length s ≡ a .end - a .first = length-slice (a .first) (a .end) (now (a .packet)) (omega arith) in
-    let p : Plain s = rw (take-all n s (omega arith)) at (plain-front n s (rw q at (c .before .plain-end .ensures .1))) in
-    let e : areText (seenHeads (a .count) (a .heads)) s ≡ true = plain-blocks (seenHeads (a .count) (a .heads)) s p in
+    let p : Plain s = rw (take-all n s (omega arith)) at (plain-upto n s (rw q at (c .before .plain-end .ensures .1))) in
+    let e : areText (seenHeads (a .count) (a .heads)) s ≡ true = plain-letters-text (seenHeads (a .count) (a .heads)) s p in
     rw e
 
 check-requires : tie.Need-check-requires
