@@ -33,7 +33,7 @@ fn ages_fall(count: usize, heads: [Head; Packet::LEVEL]) -> bool
     true
 }
 
-// Refused where a block is not text. A long payload of plain letters alone is text wherever its blocks part.
+// Refused where a block is not text. A long payload of ASCII alone is text wherever its blocks part.
 fn judge_text(
     packet: &[u8],
     first: usize,
@@ -46,7 +46,7 @@ fn judge_text(
 {
     let len = end - first;
     if 64 <= len {
-        let run = text::plain_end(&packet[first..end]);
+        let run = text::ascii_end(&packet[first..end]);
         if run == len {
             return Outcome::Accepted;
         }

@@ -7,18 +7,18 @@ use native.Mathlib.Omega.{arith}
 use lib.ListN.{length, replicate, length-replicate}
 use Rattle.text.specs.declared.Owed.{Owed}
 use Rattle.text_spec.specs.Utf8.{Range, _to_, tail, owedAfter}
-use Rattle.text_spec.proofs.Rows.{plain}
+use Rattle.text_spec.proofs.Rows.{ascii}
 use Rattle.text.specs.Owed.{ranges, owes}
 
 pub owes-none : (o : Owed) → o .tails ≡ 0 → owes o ≡ []
 owes-none o e = ap (λ (n : ℕ). ranges n (o .low to o .high)) e
 
--- then a byte begins a letter, and a plain one is a letter
+-- then a byte begins a letter, and an ASCII one is a letter
 pub owes-lead : (o : Owed) (b : ℕ) {r : Option (List Range)} → o .tails ≡ 0 → owedAfter [] b ≡ r → owedAfter (owes o) b ≡ r
 owes-lead o b z e = ap (λ (l : List Range). owedAfter l b) (owes-none o z) ∙ e
 
-pub owes-plain : (o : Owed) (b : ℕ) → o .tails ≡ 0 → b < 0x80 → owedAfter (owes o) b ≡ some (owes o)
-owes-plain o b z h = owes-lead o b z (rw (owes-none o z) (plain b (omega arith)))
+pub owes-ascii : (o : Owed) (b : ℕ) → o .tails ≡ 0 → b < 0x80 → owedAfter (owes o) b ≡ some (owes o)
+owes-ascii o b z h = owes-lead o b z (rw (owes-none o z) (ascii b (omega arith)))
 
 pub owes-some : (o : Owed) → (o .tails ≡ 0 → ⊥) → owes o ≡ (o .low to o .high) ∷ replicate (o .tails - 1) tail
 owes-some o h = go (o .tails) h

@@ -1,10 +1,11 @@
-// UTF-8 (RFC 3629, section 4): a byte at a time, plain letters many at a time.
-mod plain;
+// UTF-8 (RFC 3629, section 4): a byte at a time, ASCII many at a time.
+mod ascii;
 
 ghost use mathlib.Core.Path.{_≡_};
 ghost use mathlib.Core.List.{[]};
-ghost use lib.ListN.{length, getD};
-ghost use Prim.Native.Nat.{ℕ, _<_, _≤_};
+ghost use lib.ListN.{length, getD, take};
+ghost use Prim.Native.Nat.{_<_, _≤_};
+ghost use Rattle.base.specs.Every.{Every};
 ghost use Rattle.text_spec.specs.Utf8.{owedAfter, begins, textOf};
 ghost use Rattle.text_spec.specs.Front.{front};
 ghost use Rattle.text.specs.Owed.{owes, walked};
@@ -101,7 +102,7 @@ pub fn text_of(bytes: &[u8]) -> Text
 {
     let mut owed = fresh();
     let mut characters: usize = 0;
-    // plain letters, one behind the other
+    // ASCII letters, one behind the other
     let mut run: usize = 0;
     let mut at: usize = 0;
     while at < bytes.len() {
@@ -114,7 +115,7 @@ pub fn text_of(bytes: &[u8]) -> Text
                 run += 1;
                 // fewer are not worth the call
                 if run == 8 {
-                    let more = plain_end(&bytes[at..]);
+                    let more = ascii_end(&bytes[at..]);
                     at += more;
                     characters += more;
                     run = 0;
@@ -141,11 +142,11 @@ pub fn text_of(bytes: &[u8]) -> Text
     Text::Characters(characters)
 }
 
-// Where the plain letters at the front of bytes end.
-pub fn plain_end(bytes: &[u8]) -> usize
-    ensures { λ r. ⌜ (r ≤ length (now (bytes .entry))) × ((k : ℕ) → k < r → getD (now (bytes .entry)) k 0 < 0x80) × (r < length (now (bytes .entry)) → 0x80 ≤ getD (now (bytes .entry)) r 0) ⌝ }
+// Where the ASCII at the front of bytes ends.
+pub fn ascii_end(bytes: &[u8]) -> usize
+    ensures { λ r. ⌜ (r ≤ length (now (bytes .entry))) × Every (λ b. b < 0x80) (take r (now (bytes .entry))) × (r < length (now (bytes .entry)) → 0x80 ≤ getD (now (bytes .entry)) r 0) ⌝ }
 {
-    let mut at = plain::wide_end(bytes);
+    let mut at = ascii::wide_end(bytes);
     while at < bytes.len() {
         if 0x80 <= bytes[at] {
             return at;

@@ -1,9 +1,8 @@
 pub mod Rows
 pub mod Table
 pub mod Walks
-pub mod PlainIn
-pub mod Plain
-pub mod PlainTests
+pub mod Ascii
+pub mod AsciiTests
 pub mod WellFormed
 pub mod TextJoin
 pub mod FrontLaws

@@ -20,8 +20,8 @@ module _ (b : ℕ) where
   pub above : (lo hi : ℕ) → hi < b → within (lo to hi) b ≡ false
   above lo hi h = rw (lt-leb b hi h) (and-false (leb lo b))
 
-  pub plain : b ≤ 0x7F → begun rows b ≡ some []
-  plain h = rw (inside 0 0x7F (omega arith) h)
+  pub ascii : b ≤ 0x7F → begun rows b ≡ some []
+  ascii h = rw (inside 0 0x7F (omega arith) h)
 
   pub lone-tail : 0x80 ≤ b → b ≤ 0xC1 → begun rows b ≡ none
   lone-tail h k =

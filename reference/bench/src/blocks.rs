@@ -36,7 +36,7 @@ fn bad(random: &mut Random) -> Vec<u8> {
 
 pub fn kinds() -> Vec<Kind> {
     let mut kinds = vec![];
-    for (name, mix) in Mix::some(&["plain", "two-byte", "one-in-10"]) {
+    for (name, mix) in Mix::some(&["ascii", "two-byte", "one-in-10"]) {
         for letters in [1, 6, 40, 160] {
             let name = format!("{name}-{letters}");
             let packet = move |random: &mut _| red(random, 2, mix, letters);
@@ -44,7 +44,7 @@ pub fn kinds() -> Vec<Kind> {
         }
     }
     for (name, mix, letters) in [
-        ("five-plain", Mix::Plain, 150),
+        ("five-ascii", Mix::Ascii, 150),
         ("five-euro", Mix::Repeated("aa€"), 90),
         ("five-two-byte", Mix::Repeated("é"), 75),
     ] {

@@ -8,18 +8,18 @@ pub fn letter(random: &mut Random, times: usize) -> char {
         0 => 'é',
         1 => '€',
         2 => '😀',
-        _ => plain(random),
+        _ => ascii(random),
     }
 }
 
-fn plain(random: &mut Random) -> char {
+fn ascii(random: &mut Random) -> char {
     char::from(random.within(0x20, 0x7e) as u8)
 }
 
 /// What a text is made of.
 #[derive(Clone, Copy)]
 pub enum Mix {
-    Plain,
+    Ascii,
     /// Once in so many times not ASCII.
     OnceIn(usize),
     /// This over and over.
@@ -28,7 +28,7 @@ pub enum Mix {
 
 impl Mix {
     pub const ALL: [(&'static str, Mix); 8] = [
-        ("plain", Mix::Plain),
+        ("ascii", Mix::Ascii),
         ("one-in-64", Mix::OnceIn(64)),
         ("one-in-10", Mix::OnceIn(10)),
         ("one-in-2", Mix::OnceIn(2)),
@@ -48,7 +48,7 @@ impl Mix {
     /// A text of so many letters.
     pub fn text(self, random: &mut Random, letters: usize) -> Vec<u8> {
         let text: String = match self {
-            Mix::Plain => (0..letters).map(|_| plain(random)).collect(),
+            Mix::Ascii => (0..letters).map(|_| ascii(random)).collect(),
             Mix::OnceIn(times) => (0..letters).map(|_| letter(random, times)).collect(),
             Mix::Repeated(part) => part.chars().cycle().take(letters).collect(),
         };
@@ -56,9 +56,9 @@ impl Mix {
     }
 }
 
-/// So many plain letters, and a byte that is none.
+/// So many letters of ASCII, and a byte that is none.
 pub fn bad_end(random: &mut Random, letters: usize) -> Vec<u8> {
-    let mut text = Mix::Plain.text(random, letters);
+    let mut text = Mix::Ascii.text(random, letters);
     text.push(0xff);
     text
 }

@@ -26,7 +26,7 @@ fn long(letters: usize) -> Vec<Kind> {
 /// Many texts of few letters, and of a packet's length with a bad end.
 fn short() -> Vec<Kind> {
     let mut kinds = vec![];
-    for (name, mix) in Mix::some(&["plain", "one-in-10"]) {
+    for (name, mix) in Mix::some(&["ascii", "one-in-10"]) {
         for letters in [1, 6, 40, 160] {
             let name = format!("{name}-{letters}");
             let count = LETTERS / letters;
@@ -123,7 +123,7 @@ pub fn times() {
     say!(
         "TEXT: stewpigeon_text, which checks and counts, beside from_utf8 alone and with\n\
          chars().count(), ns per letter: {TIMED} letters in one text, {LETTERS} in short\n\
-         ones, and plain texts of 1472 bytes of which the last is bad\n"
+         ones, and ASCII of 1472 bytes of which the last is bad\n"
     );
     say!(
         "{:<14}{:>8}{:>9}{:>11}{:>8}{:>13}{:>8}",

@@ -15,13 +15,13 @@ fn usage() {
         &["quiet", "4", "once"],
         &["loud", "4", "1"],
         &["text"],
-        &["text", "plain"],
-        &["text", "plain", "once"],
+        &["text", "ascii"],
+        &["text", "ascii", "once"],
         &["text", "loud", "1"],
         &["text", "mixed", "1"],
-        &["read", "plain", "1"],
-        &["read", "plain-40", "-1"],
-        &["read", "plain-40", "1", "1"],
+        &["read", "ascii", "1"],
+        &["read", "ascii-40", "-1"],
+        &["read", "ascii-40", "1", "1"],
     ] {
         let output = bench(arguments).output().unwrap();
         assert_eq!(output.status.code(), Some(2), "{arguments:?}");
@@ -52,7 +52,7 @@ fn count(calls: &str, kind: &str) -> String {
 #[test]
 fn texts_of_one_kind() {
     for kind in [
-        "plain",
+        "ascii",
         "one-in-64",
         "one-in-10",
         "one-in-2",
@@ -63,7 +63,7 @@ fn texts_of_one_kind() {
     ] {
         assert_eq!(count("text", kind), "100000\n", "{kind}");
     }
-    for mix in ["plain", "one-in-10"] {
+    for mix in ["ascii", "one-in-10"] {
         for (letters, all) in [(1, 200_000), (6, 199_998), (40, 200_000), (160, 200_000)] {
             let kind = format!("{mix}-{letters}");
             assert_eq!(count("text", &kind), format!("{all}\n"), "{kind}");
@@ -77,14 +77,14 @@ fn packets_of_one_kind() {
     for kind in ["mixed", "line"] {
         assert_eq!(count("read", kind), "20000\n", "{kind}");
     }
-    for mix in ["plain", "one-in-10", "two-byte"] {
+    for mix in ["ascii", "one-in-10", "two-byte"] {
         for (letters, packets) in [(1, 8000), (6, 8000), (40, 1666), (160, 416)] {
             let kind = format!("{mix}-{letters}");
             assert_eq!(count("read", &kind), format!("{packets}\n"), "{kind}");
         }
     }
     for (kind, packets) in [
-        ("five-plain", 266),
+        ("five-ascii", 266),
         ("five-euro", 444),
         ("five-two-byte", 533),
         ("bad-end", 137),

@@ -4,7 +4,7 @@ use crate::check::{Case, Known};
 use crate::damage;
 use crate::plan::{Plan, LONGEST, RED, T140};
 use crate::random::Random;
-use crate::{captures, plain_packets, shapes};
+use crate::{ascii_packets, captures, shapes};
 use independent::offsets;
 
 pub struct Kind {
@@ -37,14 +37,11 @@ pub const KINDS: [Kind; 25] = [
     kind("random payload", random_payload),
     kind("prefixes of the captures", capture_prefixes),
     kind("mutated captures", mutated_captures),
-    kind("bad bytes in plain text", plain_packets::bad_bytes),
-    kind("cut letters in plain text", plain_packets::cut_letters),
-    kind(
-        "letters parted by plain text",
-        plain_packets::parted_letters,
-    ),
-    kind("letters in plain text", plain_packets::whole_letters),
-    kind("letters at ends of blocks", plain_packets::letters_at_ends),
+    kind("bad bytes among ASCII", ascii_packets::bad_bytes),
+    kind("cut letters among ASCII", ascii_packets::cut_letters),
+    kind("letters parted by ASCII", ascii_packets::parted_letters),
+    kind("letters among ASCII", ascii_packets::whole_letters),
+    kind("letters at ends of blocks", ascii_packets::letters_at_ends),
 ];
 
 fn valid_t140(random: &mut Random) -> Vec<Case> {

@@ -1,4 +1,4 @@
-//! What is not plain, to be laid among plain letters (bytes below 80 hex).
+//! What is not ASCII, to be laid among it.
 
 use crate::random::Random;
 
@@ -7,7 +7,7 @@ use crate::random::Random;
 pub struct Letter {
     pub bytes: &'static [u8],
     /// Where among them, or just behind them, the first bad byte lies if
-    /// plain letters or the end follow; none where the letter is whole.
+    /// ASCII or the end follows; none where the letter is whole.
     pub bad: Option<usize>,
 }
 
@@ -74,8 +74,8 @@ pub const WRONG: [Letter; 8] = [
     wrong(&[0xf4, 0x90, 0x80, 0x80], 1),
 ];
 
-/// So many plain letters, any of 00 to 7F.
-pub fn plain(random: &mut Random, length: usize) -> Vec<u8> {
+/// So many letters of ASCII, any of 00 to 7F.
+pub fn ascii(random: &mut Random, length: usize) -> Vec<u8> {
     let mut text = vec![0; length];
     random.fill(&mut text);
     for byte in &mut text {

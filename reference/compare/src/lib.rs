@@ -2,6 +2,8 @@
 //! independent program, and looks for a difference.
 #![forbid(unsafe_code)]
 
+mod ascii_packets;
+mod ascii_texts;
 pub mod calls;
 pub mod captures;
 pub mod check;
@@ -10,8 +12,6 @@ pub mod kinds;
 mod letters;
 pub mod output;
 mod patterns;
-mod plain_packets;
-mod plain_texts;
 pub mod plan;
 pub mod run;
 mod shapes;

@@ -1,8 +1,8 @@
 //! The kinds of texts given to the UTF-8 checks.
 
+use crate::ascii_texts;
 use crate::check::check_text;
 use crate::damage::{mutate, BAD};
-use crate::plain_texts;
 use crate::random::Random;
 
 /// What was given of a kind, and how much of it was UTF-8.
@@ -62,7 +62,7 @@ pub fn run(random: &mut Random, times: usize) -> Result<Vec<Count>, String> {
     at_the_bounds(&mut counter)?;
     every_character(&mut counter)?;
     at_random(&mut counter, times)?;
-    plain_texts::give(&mut counter)?;
+    ascii_texts::give(&mut counter)?;
     Ok(counter.counts)
 }
 

@@ -2,7 +2,7 @@ use independent::text;
 
 #[test]
 fn places_of_the_first_bad_byte() {
-    let plain = [0x41; 127];
+    let ascii = [0x41; 127];
     let cases: [(&[u8], Result<usize, usize>); 21] = [
         (b"", Ok(0)),
         ("aé€😀".as_bytes(), Ok(4)),
@@ -18,16 +18,16 @@ fn places_of_the_first_bad_byte() {
         (&[0xf0, 0x8f, 0xbf, 0xbf], Err(1)),
         (&[0x7f], Ok(1)),
         (&[0x80], Err(0)),
-        (&plain[..64], Ok(64)),
-        (&[&plain[..63], &[0x80]].concat(), Err(63)),
-        (&[&plain[..64], &[0xc3]].concat(), Err(65)),
-        (&[&plain[..64], &[0xc3, 0xa5]].concat(), Ok(65)),
+        (&ascii[..64], Ok(64)),
+        (&[&ascii[..63], &[0x80]].concat(), Err(63)),
+        (&[&ascii[..64], &[0xc3]].concat(), Err(65)),
+        (&[&ascii[..64], &[0xc3, 0xa5]].concat(), Ok(65)),
         (
-            &[&plain[..63], &[0xc3, 0xa5], &[0x42; 64]].concat(),
+            &[&ascii[..63], &[0xc3, 0xa5], &[0x42; 64]].concat(),
             Ok(128),
         ),
-        (&[&[0xe2, 0x82], &plain[..64]].concat(), Err(2)),
-        (&[&plain[..127], &[0xff]].concat(), Err(127)),
+        (&[&[0xe2, 0x82], &ascii[..64]].concat(), Err(2)),
+        (&[&ascii[..127], &[0xff]].concat(), Err(127)),
     ];
     for (bytes, result) in cases {
         assert_eq!(text(bytes), result, "{bytes:02x?}");

@@ -79,25 +79,25 @@ fn the_answer_to_a_packet() {
 
 #[test]
 fn the_answer_to_a_text() {
-    let plain = [0x41; 127];
+    let ascii = [0x41; 127];
     for (text, is_text, characters, place) in [
         (&b""[..], 1, 0, 0),
         (b"AB", 1, 2, 0),
         (b"A\xff", 0, 0, 1),
         (b"\x7f", 1, 1, 0),
         (b"\x80", 0, 0, 0),
-        (&plain[..64], 1, 64, 0),
-        (&[&plain[..63], b"\x80"].concat(), 0, 0, 63),
-        (&[&plain[..64], b"\xc3"].concat(), 0, 0, 65),
-        (&[&plain[..64], b"\xc3\xa5"].concat(), 1, 65, 0),
+        (&ascii[..64], 1, 64, 0),
+        (&[&ascii[..63], b"\x80"].concat(), 0, 0, 63),
+        (&[&ascii[..64], b"\xc3"].concat(), 0, 0, 65),
+        (&[&ascii[..64], b"\xc3\xa5"].concat(), 1, 65, 0),
         (
-            &[&plain[..63], b"\xc3\xa5", &[0x42; 64]].concat(),
+            &[&ascii[..63], b"\xc3\xa5", &[0x42; 64]].concat(),
             1,
             128,
             0,
         ),
-        (&[b"\xe2\x82", &plain[..64]].concat(), 0, 0, 2),
-        (&[&plain[..], b"\xff"].concat(), 0, 0, 127),
+        (&[b"\xe2\x82", &ascii[..64]].concat(), 0, 0, 2),
+        (&[&ascii[..], b"\xff"].concat(), 0, 0, 127),
     ] {
         let mut answer = Guarded::filled(|| FILL);
         let before = answer.clone();

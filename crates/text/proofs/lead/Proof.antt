@@ -2,7 +2,7 @@ use mathlib.Core.Path.{_∙_, ap, sym}
 use native.Mathlib.Omega.{arith}
 use borrow.Author.Needs.{needs}
 use Rattle.text.specs.Owed.{walked}
-use Rattle.text_spec.proofs.Rows.{plain, lone-tail, two, three-but, four, past-last}
+use Rattle.text_spec.proofs.Rows.{ascii, lone-tail, two, three-but, four, past-last}
 use Rattle.text.proofs.lead.Statement.{statement}
 use Rattle.text.proofs.lead.Tie as tie
 
@@ -43,7 +43,7 @@ returns-4 : tie.Need-returns-4
 returns-4 c = rw (c .begun4 .ensures, c .before .match .keys4)
 
 returns-5 : tie.Need-returns-5
-returns-5 c = ap walked (c .begun5 .ensures) ∙ sym (plain (c .before .before .before .args .byte) (omega arith))
+returns-5 c = ap walked (c .begun5 .ensures) ∙ sym (ascii (c .before .before .before .args .byte) (omega arith))
 
 returns-6 : tie.Need-returns-6
 returns-6 c = sym (lone-tail (c .before .before .before .args .byte) (omega arith) (omega arith))

@@ -12,9 +12,10 @@ use Rattle.text.specs.declared.Walked.the-variants.{Next}
 use Rattle.text.specs.Owed.{walked, owes}
 use Rattle.text_spec.specs.Utf8.{Range, owedAfter, begins, textFrom, textOf}
 use Rattle.text_spec.proofs.Walks.{on-at, stops-at}
-use Rattle.text_spec.proofs.Plain.{plain-upto, plain-at}
+use Rattle.base.specs.Every.{Every}
+use Rattle.text_spec.proofs.Ascii.{Ascii, ascii-at}
 use Rattle.base.proofs.Slices.{mid-rest}
-use Rattle.text.proofs.Owes.{owes-none, owes-some, owes-lead, owes-plain}
+use Rattle.text.proofs.Owes.{owes-none, owes-some, owes-lead, owes-ascii}
 use Rattle.text.proofs.text_of.Statement.{statement}
 use Rattle.text.proofs.text_of.Tie as tie
 
@@ -30,17 +31,17 @@ module _ (s : List ℕ) (o : Owed) (n at b : ℕ) (h : at < length s) (e : b ≡
   one-more : (p : Owed) → owedAfter (owes o) (getD s at 0) ≡ some (owes p) → textFrom (owes o) n at (drop at s) ≡ textFrom (owes p) (n + b) (at + 1) (drop (at + 1) s)
   one-more p f = on-at (owes o) n at s h f ∙ ap (λ (k : ℕ). textFrom (owes p) (n + k) (at + 1) (drop (at + 1) s)) (sym e)
 
-  -- a plain one, where nothing is owed
-  plain-letter : o .tails ≡ 0 → getD s at 0 < 0x80 → textFrom (owes o) n at (drop at s) ≡ textFrom (owes o) (n + b) (at + 1) (drop (at + 1) s)
-  plain-letter z g = one-more o (owes-plain o (getD s at 0) z g)
+  -- an ASCII one, where nothing is owed
+  ascii-letter : o .tails ≡ 0 → getD s at 0 < 0x80 → textFrom (owes o) n at (drop at s) ≡ textFrom (owes o) (n + b) (at + 1) (drop (at + 1) s)
+  ascii-letter z g = one-more o (owes-ascii o (getD s at 0) z g)
 
   -- and a run of them behind it
-  plain-run : o .tails ≡ 0 → getD s at 0 < 0x80 → (m : ℕ) → m ≤ length (take (length s - (at + 1)) (drop (at + 1) s))
-      → ((k : ℕ) → k < m → getD (take (length s - (at + 1)) (drop (at + 1) s)) k 0 < 0x80)
+  ascii-run : o .tails ≡ 0 → getD s at 0 < 0x80 → (m : ℕ) → m ≤ length (take (length s - (at + 1)) (drop (at + 1) s))
+      → Every Ascii (take m (take (length s - (at + 1)) (drop (at + 1) s)))
       → textFrom (owes o) n at (drop at s) ≡ textFrom (owes o) (n + b + m) (at + 1 + m) (drop (at + 1 + m) s)
-  plain-run z g m l f =
+  ascii-run z g m l f =
       let d = mid-rest (at + 1) s in
-      plain-letter z g ∙ rw (owes-none o z) (plain-at s (n + b) (at + 1) m (rw d at l) (plain-upto m (drop (at + 1) s) (rw d at f)))
+      ascii-letter z g ∙ rw (owes-none o z) (ascii-at s (n + b) (at + 1) m (rw d at l) (rw d at f))
 
 fresh-requires : tie.Need-fresh-requires Inv-loop μ-loop
 fresh-requires c κs = search needs
@@ -63,17 +64,17 @@ add-at c = search needs
 add-run : tie.Need-add-run Inv-loop μ-loop
 add-run c = search needs
 
-sub-plain-end : tie.Need-sub-plain-end Inv-loop μ-loop
-sub-plain-end c = search needs
+sub-ascii-end : tie.Need-sub-ascii-end Inv-loop μ-loop
+sub-ascii-end c = search needs
 
-part-plain-end-start : tie.Need-part-plain-end-start Inv-loop μ-loop
-part-plain-end-start c = search needs
+part-ascii-end-start : tie.Need-part-ascii-end-start Inv-loop μ-loop
+part-ascii-end-start c = search needs
 
-part-plain-end-end : tie.Need-part-plain-end-end Inv-loop μ-loop
-part-plain-end-end c = search needs
+part-ascii-end-end : tie.Need-part-ascii-end-end Inv-loop μ-loop
+part-ascii-end-end c = search needs
 
-plain-end-requires : tie.Need-plain-end-requires Inv-loop μ-loop
-plain-end-requires c κs = search needs
+ascii-end-requires : tie.Need-ascii-end-requires Inv-loop μ-loop
+ascii-end-requires c κs = search needs
 
 add-at-2 : tie.Need-add-at-2 Inv-loop μ-loop
 add-at-2 c = search needs
@@ -93,8 +94,8 @@ loop-again c =
       omega (arith, b .ensures .1),
       omega arith,
       l .inv .3
-          ∙ plain-run s (l .owed) (l .characters) (l .at) (b .result) (c .before .before .before .before .before .before .before .loop-test .taken) (b .ensures .0) (c .before .before .before .before .if1 .taken) (c .before .before .before .if2 .taken)
-          (c .plain-end .result) (c .plain-end .ensures .0) (c .plain-end .ensures .1),
+          ∙ ascii-run s (l .owed) (l .characters) (l .at) (b .result) (c .before .before .before .before .before .before .before .loop-test .taken) (b .ensures .0) (c .before .before .before .before .if1 .taken) (c .before .before .before .if2 .taken)
+          (c .ascii-end .result) (c .ascii-end .ensures .0) (c .ascii-end .ensures .1),
     )
 
 loop-less-2 : tie.Need-loop-less-2 Inv-loop μ-loop
@@ -109,7 +110,7 @@ loop-again-2 c =
       omega (arith, b .ensures .1),
       omega arith,
       l .inv .3
-          ∙ plain-letter s (l .owed) (l .characters) (l .at) (b .result) (c .before .before .before .before .before .loop-test .taken) (b .ensures .0) (c .before .before .if1 .taken) (c .before .if2 .taken),
+          ∙ ascii-letter s (l .owed) (l .characters) (l .at) (b .result) (c .before .before .before .before .before .loop-test .taken) (b .ensures .0) (c .before .before .if1 .taken) (c .before .if2 .taken),
     )
 
 lead-requires : tie.Need-lead-requires Inv-loop μ-loop
@@ -189,10 +190,10 @@ text-of-spec =
     add-characters
     add-at
     add-run
-    sub-plain-end
-    part-plain-end-start
-    part-plain-end-end
-    plain-end-requires
+    sub-ascii-end
+    part-ascii-end-start
+    part-ascii-end-end
+    ascii-end-requires
     add-at-2
     add-characters-2
     loop-less

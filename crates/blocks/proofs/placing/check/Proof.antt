@@ -3,7 +3,7 @@ use mathlib.Core.Path.{_≡_, _∙_, ap, sym}
 use mathlib.Core.List.{List, map}
 use mathlib.Core.Bool.{Bool, true, false}
 use mathlib.Core.Logic.{⊎-elim}
-use mathlib.Core.Option.{some}
+use mathlib.Core.Option.{none, some}
 use native.Mathlib.Omega.{arith}
 use lib.ListN.{length, getD, drop, length-map}
 use lib.Seq.{slice, slice-empty}
@@ -20,7 +20,7 @@ use Rattle.packet_spec.specs.Redundancy.{Head, total, areText}
 use Rattle.block_headers.specs.internal.Seen.{seenHead, seenHeads, noHead}
 use Rattle.base.proofs.Maps.{getD-map}
 use Rattle.text_spec.proofs.Walks.{goesOn, part-on, part-stops}
-use Rattle.text.proofs.Owes.{owes-none, owes-some, owes-lead, owes-plain}
+use Rattle.text.proofs.Owes.{owes-none, owes-some, owes-lead, owes-ascii}
 use Rattle.blocks.proofs.BlockWalk.{Here, behind, older-here, primary-here}
 use Rattle.blocks.proofs.placing.check.Statement.{statement}
 use Rattle.blocks.proofs.placing.check.Tie as tie
@@ -74,6 +74,14 @@ owed-some c h =
     let to = c .before .before .before .if1 .to in
     let e : c .before .loop .i ≡ to = omega arith in
     c .before .loop .inv .3 ∙ rw (e, slice-empty to (now (c .before .before .before .before .before .before .args .packet)), owes-some (c .before .loop .owed) h)
+
+-- a byte at which the block at hand stops being text
+stops-here : (c : tie.At-loop Inv-loop μ-loop Inv-blocks2 μ-blocks2) → c .loop .i < c .before .before .if1 .to
+    → owedAfter (owes (c .loop .owed)) (getD (now (c .before .before .before .before .before .args .packet)) (c .loop .i) 0) ≡ none → all-text c ≡ false
+unfolding text-here
+stops-here c h e =
+    bad-here c
+    (c .loop .inv .3 ∙ part-stops (owes (c .loop .owed)) (now (c .before .before .before .before .before .args .packet)) (c .loop .i) (c .before .before .if1 .to) h (search needs) e)
 
 ne-lt : (k n : ℕ) → k ≤ n → (k ≡ n → ⊥) → k < n
 ne-lt k n h f = omega arith
@@ -151,7 +159,7 @@ loop-again c =
     ⊎-elim
     (λ w. owes-lead (l .owed) b (w .0 .taken) (sym (w .2 .ensures) ∙ ap walked (w .4 .given .1 ∙ ap Next (sym (w .6)))))
     (⊎-elim
-    (λ w. owes-plain (l .owed) b (w .0 .taken) (w .1 .left) ∙ ap (λ (o : Owed). some (owes o)) (sym (w .2)))
+    (λ w. owes-ascii (l .owed) b (w .0 .taken) (w .1 .left) ∙ ap (λ (o : Owed). some (owes o)) (sym (w .2)))
     (λ w. sym (w .1 .ensures) ∙ ap walked (w .3 .given .1 ∙ ap Next (sym (w .5)))))
     (c .if2 .came) in
     (search needs, l .inv .1, l .inv .2, l .inv .3 ∙ part-on (owes (l .owed)) p (l .i) to (c .before .before .loop-test .taken) (search needs) f)
@@ -175,27 +183,17 @@ blocks2-again c =
     )
 
 returns : tie.Need-returns Inv-loop μ-loop Inv-blocks2 μ-blocks2
-unfolding all-text text-here
+unfolding all-text
 returns c =
     let d = c .before .before .before .before .before .before .before in
-    let l = d .loop in
-    let p = now (d .before .before .before .before .before .args .packet) in
-    let e : text-here d ≡ false =
-    l .inv .3
-    ∙ part-stops (owes (l .owed)) p (l .i) (d .before .before .if1 .to) (c .before .before .before .before .before .before .loop-test .taken) (search needs)
-    (owes-lead (l .owed) (getD p (l .i) 0) (c .before .before .before .before .if2 .taken) (sym (c .before .before .lead .ensures) ∙ ap walked (c .enum-told .given .1))) in
-    rw (bad-here d e)
+    rw (stops-here d (c .before .before .before .before .before .before .loop-test .taken)
+    (owes-lead (d .loop .owed) _ (c .before .before .before .before .if2 .taken) (sym (c .before .before .lead .ensures) ∙ ap walked (c .enum-told .given .1))))
 
 returns-2 : tie.Need-returns-2 Inv-loop μ-loop Inv-blocks2 μ-blocks2
-unfolding all-text text-here
+unfolding all-text
 returns-2 c =
-    let d = c .before .before .before .before .before .before in
-    let l = d .loop in
-    let e : text-here d ≡ false =
-    l .inv .3
-    ∙ part-stops (owes (l .owed)) (now (d .before .before .before .before .before .args .packet)) (l .i) (d .before .before .if1 .to) (c .before .before .before .before .before .loop-test .taken) (search needs)
-    (sym (c .before .before .step .ensures) ∙ ap walked (c .enum-told2 .given .1)) in
-    rw (bad-here d e)
+    rw (stops-here (c .before .before .before .before .before .before) (c .before .before .before .before .before .loop-test .taken)
+    (sym (c .before .before .step .ensures) ∙ ap walked (c .enum-told2 .given .1)))
 
 returns-3 : tie.Need-returns-3 Inv-loop μ-loop Inv-blocks2 μ-blocks2
 unfolding all-text

@@ -1,24 +1,24 @@
-//! Texts of plain letters in which others interrupt the runs of them.
+//! Texts of ASCII in which other letters interrupt the runs of it.
 
-use crate::letters::{lay, plain, Letter, BYTES, CUT, WHOLE, WRONG};
+use crate::letters::{ascii, lay, Letter, BYTES, CUT, WHOLE, WRONG};
 use crate::texts::Counter;
 
 const LONGEST: usize = 200;
 
 /// Gives all kinds of these texts.
 pub fn give(counter: &mut Counter<'_>) -> Result<(), String> {
-    plain_alone(counter)?;
-    at_every_place(counter, "plain text, a bad byte at every place", &BYTES)?;
-    at_every_place(counter, "plain text, a letter at every place", &WHOLE)?;
-    at_every_place(counter, "plain text, a cut letter at every place", &CUT)?;
-    at_every_place(counter, "plain text, a wrong letter at every place", &WRONG)?;
+    ascii_alone(counter)?;
+    at_every_place(counter, "ASCII, a bad byte at every place", &BYTES)?;
+    at_every_place(counter, "ASCII, a letter at every place", &WHOLE)?;
+    at_every_place(counter, "ASCII, a cut letter at every place", &CUT)?;
+    at_every_place(counter, "ASCII, a wrong letter at every place", &WRONG)?;
     parted_letters(counter)?;
     two_letters(counter)
 }
 
-/// Every plain letter at every place of every length.
-fn plain_alone(counter: &mut Counter<'_>) -> Result<(), String> {
-    counter.kind("plain text of 0 to 200 bytes");
+/// Every letter of ASCII at every place of every length.
+fn ascii_alone(counter: &mut Counter<'_>) -> Result<(), String> {
+    counter.kind("ASCII of 0 to 200 bytes");
     for length in 0..=LONGEST {
         for first in 0..0x80 {
             let text: Vec<u8> = (first..).take(length).map(|k| (k % 0x80) as u8).collect();
@@ -38,7 +38,7 @@ fn at_every_place(
 ) -> Result<(), String> {
     counter.kind(name);
     for length in 0..=LONGEST {
-        let plain = plain(counter.random, length);
+        let ascii = ascii(counter.random, length);
         let near = [16_usize, 32, 64, 128, LONGEST]
             .iter()
             .any(|bound| bound.abs_diff(length) <= 3);
@@ -46,7 +46,7 @@ fn at_every_place(
             let step = if near || place + 4 >= length { 1 } else { 4 };
             for letter in letters.iter().skip((length + place) % step).step_by(step) {
                 if place + letter.bytes.len() <= length {
-                    give_with(counter, &plain, &[(place, *letter)])?;
+                    give_with(counter, &ascii, &[(place, *letter)])?;
                 }
             }
         }
@@ -54,16 +54,16 @@ fn at_every_place(
     Ok(())
 }
 
-/// Letters whose bytes are parted by so many plain ones.
+/// Letters whose bytes are parted by so many of ASCII.
 fn parted_letters(counter: &mut Counter<'_>) -> Result<(), String> {
-    counter.kind("plain text, in it a letter parted by a run");
+    counter.kind("ASCII, in it a letter parted by a run");
     for run in 1..=LONGEST {
         for letter in WHOLE {
             for cut in 1..letter.bytes.len() {
                 let (head, tail) = letter.bytes.split_at(cut);
                 let (before, behind) = (counter.random.below(80), counter.random.below(80));
-                let plain = plain(counter.random, before + run + behind);
-                let (start, rest) = plain.split_at(before);
+                let ascii = ascii(counter.random, before + run + behind);
+                let (start, rest) = ascii.split_at(before);
                 let (middle, end) = rest.split_at(run);
                 let text = [start, head, middle, tail, end].concat();
                 counter.give_known(&text, Err(before + cut))?;
@@ -75,10 +75,10 @@ fn parted_letters(counter: &mut Counter<'_>) -> Result<(), String> {
 
 /// Two letters at every two places, the first of them most often whole.
 fn two_letters(counter: &mut Counter<'_>) -> Result<(), String> {
-    counter.kind("plain text, letters at every two places");
+    counter.kind("ASCII, letters at every two places");
     let any = [&WHOLE[..], &BYTES, &CUT, &WRONG].concat();
     for length in [65, 130, LONGEST] {
-        let plain = plain(counter.random, length);
+        let ascii = ascii(counter.random, length);
         for first in 0..length {
             for second in first + 1..length {
                 let one = match counter.random.once_in(8) {
@@ -89,7 +89,7 @@ fn two_letters(counter: &mut Counter<'_>) -> Result<(), String> {
                 // A cut letter may be mended by what follows it at once.
                 let end = first + one.bad.map_or(0, |bad| bad + 1).max(one.bytes.len());
                 if end <= second && second + other.bytes.len() <= length {
-                    give_with(counter, &plain, &[(first, one), (second, other)])?;
+                    give_with(counter, &ascii, &[(first, one), (second, other)])?;
                 }
             }
         }
@@ -97,14 +97,14 @@ fn two_letters(counter: &mut Counter<'_>) -> Result<(), String> {
     Ok(())
 }
 
-/// Gives the plain text with these letters laid over it at their places.
+/// Gives the ASCII with these letters laid over it at their places.
 fn give_with(
     counter: &mut Counter<'_>,
-    plain: &[u8],
+    ascii: &[u8],
     letters: &[(usize, Letter)],
 ) -> Result<(), String> {
-    let mut text = plain.to_vec();
-    let mut known = Ok(plain.len());
+    let mut text = ascii.to_vec();
+    let mut known = Ok(ascii.len());
     for (place, letter) in letters {
         lay(&mut text, *place, letter.bytes);
         known = known.and_then(|characters| match letter.bad {

@@ -1,42 +1,42 @@
-//! Kinds of packets with plain text of 60 to 200 bytes, in which others than
-//! plain letters interrupt the runs of them.
+//! Kinds of packets with 60 to 200 bytes of ASCII, in which other letters
+//! interrupt the runs of it.
 
 use std::ops::Range;
 
 use crate::check::{Case, Known};
-use crate::letters::{lay, plain, Letter, BYTES, CUT, WHOLE};
+use crate::letters::{ascii, lay, Letter, BYTES, CUT, WHOLE};
 use crate::plan::{Plan, RED, T140};
 use crate::random::Random;
 use independent::offsets;
 use stewpigeon::lent;
 
-/// A good packet of plain text.
-struct Plain {
+/// A good packet of ASCII, over which letters are laid.
+struct Base {
     packet: Vec<u8>,
     answer: lent::Packet,
     /// The places that its blocks take.
     blocks: Vec<Range<usize>>,
 }
 
-impl Plain {
+impl Base {
     /// A RED packet of so many older blocks, or a T140 one if they are none,
     /// and of so many bytes of text.
-    fn new(random: &mut Random, count: usize, length: usize) -> Plain {
+    fn new(random: &mut Random, count: usize, length: usize) -> Base {
         let mut plan = Plan::new(random, if count == 0 { T140 } else { RED });
         plan.dress(random);
         let mut ends: Vec<usize> = (0..count).map(|_| border(random, length)).collect();
         ends.sort_unstable();
         let mut start = 0;
         for (age, end) in offsets::falling(random, count).into_iter().zip(&ends) {
-            plan.older.push((age, plain(random, end - start)));
+            plan.older.push((age, ascii(random, end - start)));
             start = *end;
         }
-        plan.primary = plain(random, length - start);
+        plan.primary = ascii(random, length - start);
 
         let mut start = plan.blocks();
         let ends = ends.iter().chain([&length]).map(|end| plan.blocks() + end);
         let block = |end| std::mem::replace(&mut start, end)..end;
-        Plain {
+        Base {
             packet: plan.bytes(),
             answer: plan.answer(),
             blocks: ends.map(block).collect(),
@@ -44,7 +44,7 @@ impl Plain {
     }
 
     /// One of every length, and all numbers of older blocks about two bounds.
-    fn all(random: &mut Random) -> Vec<Plain> {
+    fn all(random: &mut Random) -> Vec<Base> {
         let mut all = vec![];
         for length in 60..=200 {
             let counts = match length {
@@ -54,7 +54,7 @@ impl Plain {
                     count..=count
                 }
             };
-            all.extend(counts.map(|count| Plain::new(random, count, length)));
+            all.extend(counts.map(|count| Base::new(random, count, length)));
         }
         all
     }
@@ -93,17 +93,17 @@ fn border(random: &mut Random, length: usize) -> usize {
     }
 }
 
-/// What a plain packet and a place in one of its blocks lead to, for every
+/// What a packet and a place in one of its blocks lead to, for every
 /// place of all packets.
 fn at_each_place(
     random: &mut Random,
-    case: impl Fn(&mut Random, &Plain, &Range<usize>, usize) -> Option<Case>,
+    case: impl Fn(&mut Random, &Base, &Range<usize>, usize) -> Option<Case>,
 ) -> Vec<Case> {
     let mut cases = vec![];
-    for plain in Plain::all(random) {
-        for block in &plain.blocks {
+    for base in Base::all(random) {
+        for block in &base.blocks {
             for place in block.clone() {
-                cases.extend(case(random, &plain, block, place));
+                cases.extend(case(random, &base, block, place));
             }
         }
     }
@@ -112,24 +112,24 @@ fn at_each_place(
 
 /// A byte that no letter begins with.
 pub fn bad_bytes(random: &mut Random) -> Vec<Case> {
-    at_each_place(random, |random, plain, _, place| {
+    at_each_place(random, |random, base, _, place| {
         let byte = random.pick(&BYTES).bytes;
-        Some(plain.bad(random, place, byte))
+        Some(base.bad(random, place, byte))
     })
 }
 
-/// A letter that is cut by plain ones or by its block's end.
+/// A letter that is cut by ASCII or by its block's end.
 pub fn cut_letters(random: &mut Random) -> Vec<Case> {
-    at_each_place(random, |random, plain, block, place| {
+    at_each_place(random, |random, base, block, place| {
         let cut = random.pick(&CUT).bytes;
         let fits = cut.len().min(block.end - place);
-        Some(plain.bad(random, place, &cut[..fits]))
+        Some(base.bad(random, place, &cut[..fits]))
     })
 }
 
-/// A letter whose bytes are parted by plain ones, where the block has room.
+/// A letter whose bytes are parted by ASCII, where the block has room.
 pub fn parted_letters(random: &mut Random) -> Vec<Case> {
-    at_each_place(random, |random, plain, block, place| {
+    at_each_place(random, |random, base, block, place| {
         let letter = random.pick(&WHOLE).bytes;
         let (head, tail) = letter.split_at(random.within(1, letter.len() - 1));
         let room = (block.end - place).saturating_sub(letter.len());
@@ -138,7 +138,7 @@ pub fn parted_letters(random: &mut Random) -> Vec<Case> {
         if run == 0 {
             return None;
         }
-        let mut case = plain.bad(random, place, head);
+        let mut case = base.bad(random, place, head);
         lay(&mut case.packet, place + head.len() + run, tail);
         Some(case)
     })
@@ -146,20 +146,20 @@ pub fn parted_letters(random: &mut Random) -> Vec<Case> {
 
 /// A whole letter, be it inside a block or not.
 pub fn whole_letters(random: &mut Random) -> Vec<Case> {
-    at_each_place(random, |random, plain, _, place| {
+    at_each_place(random, |random, base, _, place| {
         let letter = random.pick(&WHOLE);
-        plain.whole(random, place, letter)
+        base.whole(random, place, letter)
     })
 }
 
 /// Each letter wherever it touches the end of a block or lies across it.
 pub fn letters_at_ends(random: &mut Random) -> Vec<Case> {
     let mut cases = vec![];
-    for plain in Plain::all(random) {
-        for block in &plain.blocks {
+    for base in Base::all(random) {
+        for block in &base.blocks {
             for letter in WHOLE {
                 for place in block.end - letter.bytes.len()..=block.end {
-                    cases.extend(plain.whole(random, place, letter));
+                    cases.extend(base.whole(random, place, letter));
                 }
             }
         }

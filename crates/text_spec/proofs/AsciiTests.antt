@@ -1,8 +1,9 @@
--- Plain letters with others among them (02, request 3), computed.
+-- Runs of ASCII with other letters among them (02, request 3), computed.
 use Prim.Native.Nat.{ℕ}
 use mathlib.Core.Path.{_≡_, refl}
 use mathlib.Core.List.{List, [], _∷_, _++_}
 use lib.ListN.{replicate}
+use Rattle.base.specs.Every.{Every}
 use Rattle.text_spec.specs.Utf8.{Text, Characters, Stops, textOf}
 
 pub record Case : Type 0 where
@@ -12,10 +13,6 @@ pub record Case : Type 0 where
 infixl 20 _is_
 abbrev pub _is_ : List ℕ → Text → Case
 s is t = record { bytes = s; text = t }
-
-abbrev pub Holds : List Case → Type 0
-Holds [] = Unit {0}
-Holds (c ∷ cs) = (textOf (c .bytes) ≡ c .text) × Holds cs
 
 -- so many times 41 hex
 abbrev pub letters : ℕ → List ℕ
@@ -35,6 +32,6 @@ cases =
     ∷ (letters 127 ++ (0xFF ∷ []) is Stops 127)
     ∷ []
 
-pub plain-tests : Holds cases
+pub ascii-tests : Every (λ (c : Case). textOf (c .bytes) ≡ c .text) cases
 unfolding cases
-plain-tests = (refl, (refl, (refl, (refl, (refl, (refl, (refl, (refl, (refl, (refl, tt))))))))))
+ascii-tests = (refl, (refl, (refl, (refl, (refl, (refl, (refl, (refl, (refl, (refl, tt))))))))))
