@@ -7,6 +7,8 @@
 #include "layout.h"
 
 _Static_assert(sizeof(struct stewpigeon_receiver) == STEWPIGEON_RECEIVER_SIZE, "receiver");
+_Static_assert(offsetof(struct stewpigeon_receiver, has_kept) == 3, "the second flag");
+_Static_assert(offsetof(struct stewpigeon_receiver, kept) == 10, "the number kept");
 _Static_assert(sizeof(struct stewpigeon_step) == STEWPIGEON_STEP_SIZE, "step");
 _Static_assert(sizeof(struct stewpigeon_sender_record) == STEWPIGEON_SENDER_RECORD_SIZE, "sender's record");
 _Static_assert(sizeof(struct stewpigeon_sender) == STEWPIGEON_SENDER_SIZE, "sender");

@@ -3,16 +3,19 @@
 
 enum { T140 = 98, RED = 100 };
 
-/* RED with one older block, `number` being the sequence number's last byte. */
-#define PACKET(number)                                                                                         \
-    {                                                                                                          \
-        0x80, 0x64, 0x12, number, 0, 0, 0, 0, 0x11, 0x22, 0x33, 0x44, 0xE2, 0x04, 0x00, 0x02, 0x62, 'a', 'b', 'c' \
+/* RED with one older block and this sequence number. */
+#define PACKET(number)                                                                                               \
+    {                                                                                                                \
+        0x80, 0x64, (number) >> 8, (number) & 0xFF, 0, 0, 0, 0, 0x11, 0x22, 0x33, 0x44, 0xE2, 0x04, 0x00, 0x02, 0x62, \
+            'a', 'b', 'c'                                                                                            \
     }
 
 enum { LENGTH = 20 };
 
-static const uint8_t first[LENGTH] = PACKET(0x34);
-static const uint8_t fourth[LENGTH] = PACKET(0x37);
+static const uint8_t first[LENGTH] = PACKET(0x1234);
+static const uint8_t fourth[LENGTH] = PACKET(0x1237);
+static const uint8_t distant[LENGTH] = PACKET(0x5678);
+static const uint8_t after_distant[LENGTH] = PACKET(0x5679);
 static const uint8_t zeros[STEWPIGEON_LONGEST + 1];
 
 static void open(struct guarded_receiver *line)
@@ -22,21 +25,8 @@ static void open(struct guarded_receiver *line)
     FILLED(*line);
     EXPECT(stewpigeon_receiver_open(&line->record, T140, RED) == 0);
     EXPECT(UNTOUCHED(*line));
-    EXPECT(receiver->t140 == T140 && receiver->red == RED && receiver->has_source == 0);
-    EXPECT(receiver->source == 0 && receiver->expected == 0);
-}
-
-/* Fills what lies around the record and between its fields, whatever a call has left there. */
-static void refilled(struct guarded_receiver *line)
-{
-    const struct stewpigeon_receiver from = line->record;
-
-    FILLED(*line);
-    line->record.t140 = from.t140;
-    line->record.red = from.red;
-    line->record.has_source = from.has_source;
-    line->record.source = from.source;
-    line->record.expected = from.expected;
+    EXPECT(receiver->t140 == T140 && receiver->red == RED && receiver->has_source == 0 && receiver->has_kept == 0);
+    EXPECT(receiver->source == 0 && receiver->expected == 0 && receiver->kept == 0);
 }
 
 /* A packet that is accepted. */
@@ -47,45 +37,79 @@ static void accepted(struct guarded_receiver *line, const uint8_t *packet, struc
     EXPECT(UNTOUCHED(*line) && UNTOUCHED(*step));
 }
 
+/* Forward, or a break: both blocks are given, and no number is kept. */
+static void gave(const struct guarded_receiver *line, uint16_t expected, const struct guarded_step *step)
+{
+    const struct stewpigeon_receiver *receiver = &line->record;
+
+    EXPECT(receiver->t140 == T140 && receiver->red == RED && receiver->has_source == 1 && receiver->has_kept == 0);
+    EXPECT(receiver->source == 0x11223344 && receiver->expected == expected && receiver->kept == 0);
+    EXPECT(step->record.older == 1 && step->record.given == 2 && step->record.from == 17 && step->record.to == 20);
+}
+
+/* Late, or a jump. */
+static void gave_nothing(const struct guarded_step *step)
+{
+    EXPECT(step->record.loss == 0 && step->record.older == 0 && step->record.given == 0);
+    EXPECT(step->record.from == 0 && step->record.to == 0);
+}
+
+/* A jump: its number plus 1 is kept. */
+static void jumped(const struct guarded_receiver *line, uint16_t expected, uint16_t kept,
+                   const struct guarded_step *step)
+{
+    const struct stewpigeon_receiver *receiver = &line->record;
+
+    EXPECT(receiver->t140 == T140 && receiver->red == RED && receiver->has_source == 1 && receiver->has_kept == 1);
+    EXPECT(receiver->source == 0x11223344 && receiver->expected == expected && receiver->kept == kept);
+    EXPECT(step->record.course == STEWPIGEON_JUMP);
+    gave_nothing(step);
+}
+
 static void every_field(void)
 {
-    struct guarded_receiver line, kept;
+    struct guarded_receiver line, earlier;
     struct guarded_step told;
-    const struct stewpigeon_receiver *receiver = &line.record;
     const struct stewpigeon_step *step = &told.record;
 
     open(&line);
     accepted(&line, first, &told);
-    EXPECT(receiver->t140 == T140 && receiver->red == RED && receiver->has_source == 1);
-    EXPECT(receiver->source == 0x11223344 && receiver->expected == 0x1235);
-    EXPECT(step->late == 0 && step->loss == 0 && step->distance == 0);
-    EXPECT(step->older == 1 && step->given == 2 && step->from == 17 && step->to == 20);
+    gave(&line, 0x1235, &told);
+    EXPECT(step->course == STEWPIGEON_FORWARD && step->loss == 0 && step->distance == 0);
 
     accepted(&line, fourth, &told);
-    EXPECT(receiver->t140 == T140 && receiver->red == RED && receiver->has_source == 1);
-    EXPECT(receiver->source == 0x11223344 && receiver->expected == 0x1238);
-    EXPECT(step->late == 0 && step->loss == 1 && step->distance == 2);
-    EXPECT(step->older == 1 && step->given == 2 && step->from == 17 && step->to == 20);
+    gave(&line, 0x1238, &told);
+    EXPECT(step->course == STEWPIGEON_FORWARD && step->loss == 1 && step->distance == 2);
 
-    refilled(&line);
-    KEEP(kept, line);
+    accepted(&line, distant, &told);
+    jumped(&line, 0x1238, 0x5679, &told);
+    EXPECT(step->distance == 0x4440);
+
+    KEEP(earlier, line);
     accepted(&line, first, &told);
-    EXPECT(SAME(kept, line));
-    EXPECT(step->late == 1 && step->loss == 0 && step->distance == -4);
-    EXPECT(step->older == 0 && step->given == 0 && step->from == 0 && step->to == 0);
+    EXPECT(SAME(earlier, line));
+    EXPECT(step->course == STEWPIGEON_LATE && step->distance == -4);
+    gave_nothing(&told);
+
+    accepted(&line, after_distant, &told);
+    gave(&line, 0x567A, &told);
+    EXPECT(step->course == STEWPIGEON_BREAK && step->loss == 0 && step->distance == 0);
+
+    accepted(&line, fourth, &told);
+    jumped(&line, 0x567A, 0x1238, &told);
+    EXPECT(step->distance == -0x4443);
 }
 
 static uint8_t refused(struct guarded_receiver *line, const uint8_t *packet, size_t length)
 {
-    struct guarded_receiver kept;
+    struct guarded_receiver earlier;
     struct guarded_step step;
     uint8_t number;
 
-    refilled(line);
-    KEEP(kept, *line);
+    KEEP(earlier, *line);
     FILLED(step);
     number = stewpigeon_receiver_step(&line->record, packet, length, &step.record);
-    EXPECT(SAME(kept, *line) && STILL_FILLED(step));
+    EXPECT(SAME(earlier, *line) && STILL_FILLED(step));
     return number;
 }
 
@@ -125,42 +149,70 @@ static void refusals(void)
     FILLED(line);
     EXPECT(stewpigeon_receiver_open(&line.record, T140, T140) == STEWPIGEON_REFUSED_PAYLOAD_TYPES);
     EXPECT(UNTOUCHED(line));
-    EXPECT(line.record.t140 == 0 && line.record.red == 0 && line.record.has_source == 0);
-    EXPECT(line.record.source == 0 && line.record.expected == 0);
+    EXPECT(are((const uint8_t *)&line.record, sizeof line.record, 0));
     EXPECT(refused(&line, first, LENGTH) == STEWPIGEON_REFUSED_PAYLOAD_TYPES);
 }
 
-/* A receiver that expects the first packet, with this byte in its flag. */
-static void flagged(struct guarded_receiver *line, unsigned flag)
+/* A receiver that expects the first packet and keeps the distant one's number, with these bytes in its flags. */
+static void flagged(struct guarded_receiver *line, unsigned has_source, unsigned has_kept)
 {
     open(line);
-    line->record.has_source = (uint8_t)flag;
+    line->record.has_source = (uint8_t)has_source;
+    line->record.has_kept = (uint8_t)has_kept;
     line->record.source = 0x11223344;
     line->record.expected = 0x1234;
+    line->record.kept = 0x5678;
 }
 
-/* 0 is false, all else true: refused and late packets leave the byte, and a forward one makes it 1. */
-static void every_flag(void)
+/* 0 is false, all else true: refused and late packets leave the bytes, and all others make them 0 or 1. */
+static void flags(unsigned has_source, unsigned has_kept)
 {
-    struct guarded_receiver line, kept;
+    struct guarded_receiver line, earlier;
     struct guarded_step step;
 
-    for (unsigned flag = 0; flag < 256; flag++) {
-        flagged(&line, flag);
-        EXPECT(refused(&line, first, 11) == STEWPIGEON_REFUSED_SHORT);
-        if (flag != 0)
-            EXPECT(changed(&line, 8, 0x12) == STEWPIGEON_REFUSED_SOURCE);
-        accepted(&line, fourth, &step);
-        EXPECT(line.record.has_source == 1 && line.record.expected == 0x1238);
-        EXPECT(step.record.loss == (flag == 0 ? 0 : 2) && step.record.distance == (flag == 0 ? 0 : 3));
+    flagged(&line, has_source, has_kept);
+    EXPECT(refused(&line, first, 11) == STEWPIGEON_REFUSED_SHORT);
+    if (has_source != 0)
+        EXPECT(changed(&line, 8, 0x12) == STEWPIGEON_REFUSED_SOURCE);
+    accepted(&line, fourth, &step);
+    gave(&line, 0x1238, &step);
+    EXPECT(step.record.course == STEWPIGEON_FORWARD);
+    EXPECT(step.record.loss == (has_source == 0 ? 0 : 2) && step.record.distance == (has_source == 0 ? 0 : 3));
 
-        flagged(&line, flag);
-        line.record.expected = 0x1235;
-        refilled(&line);
-        KEEP(kept, line);
-        accepted(&line, first, &step);
-        EXPECT(step.record.late == (flag == 0 ? 0 : 1) && step.record.distance == (flag == 0 ? 0 : -1));
-        EXPECT(flag == 0 || SAME(kept, line));
+    flagged(&line, has_source, has_kept);
+    line.record.expected = 0x1235;
+    KEEP(earlier, line);
+    accepted(&line, first, &step);
+    EXPECT(step.record.course == (has_source == 0 ? STEWPIGEON_FORWARD : STEWPIGEON_LATE));
+    EXPECT(step.record.distance == (has_source == 0 ? 0 : -1));
+    EXPECT(has_source == 0 || SAME(earlier, line));
+
+    flagged(&line, has_source, has_kept);
+    accepted(&line, after_distant, &step);
+    if (has_source == 0)
+        gave(&line, 0x567A, &step);
+    else
+        jumped(&line, 0x1234, 0x567A, &step);
+
+    flagged(&line, has_source, has_kept);
+    accepted(&line, distant, &step);
+    if (has_source != 0 && has_kept == 0) {
+        jumped(&line, 0x1234, 0x5679, &step);
+    } else {
+        gave(&line, 0x5679, &step);
+        EXPECT(step.record.course == (has_source == 0 ? STEWPIGEON_FORWARD : STEWPIGEON_BREAK));
+        EXPECT(step.record.loss == 0 && step.record.distance == 0);
+    }
+}
+
+static void every_flag(void)
+{
+    for (unsigned flag = 0; flag < 256; flag++) {
+        flags(flag, 0);
+        flags(flag, 1);
+        flags(0, flag);
+        flags(1, flag);
+        flags(flag, flag);
     }
 }
 

@@ -18,8 +18,8 @@
 
 /* The version: all else that names it is made from this, or held to it. */
 #define STEWPIGEON_VERSION_MAJOR 0
-#define STEWPIGEON_VERSION_MINOR 3
-#define STEWPIGEON_VERSION_PATCH 1
+#define STEWPIGEON_VERSION_MINOR 4
+#define STEWPIGEON_VERSION_PATCH 0
 
 #ifdef __cplusplus
 extern "C" {
@@ -66,17 +66,27 @@ struct stewpigeon_receiver {
     uint8_t t140;
     uint8_t red;
     uint8_t has_source; /* a flag: 0 until a packet was accepted; any other value counts as 1 */
-    uint32_t source;    /* of that packet */
+    uint8_t has_kept;   /* a flag: 0 where no number is kept; any other value counts as 1 */
+    uint32_t source;    /* of the first accepted packet */
     uint16_t expected;  /* the sequence number that is expected next */
+    uint16_t kept;      /* the number after the last jump's, which a break has; 0 where none is kept */
 };
 
 #define STEWPIGEON_RECEIVER_SIZE 12
 
+/* The course of an accepted packet: how its number stands to the newest one, which is `expected` minus 1. */
+enum stewpigeon_course {
+    STEWPIGEON_FORWARD = 0, /* the first packet, or 1 to 2,999 ahead: it is the newest now */
+    STEWPIGEON_LATE = 1,    /* a copy of the newest, or 1 to 99 behind it: gives nothing */
+    STEWPIGEON_JUMP = 2,    /* any other number: gives nothing, and the number after it is kept */
+    STEWPIGEON_BREAK = 3    /* any other, but the one that is kept: the sender began anew; all blocks are given */
+};
+
 /* What the receiver's step says of an accepted packet. */
 struct stewpigeon_step {
-    uint8_t late;     /* 1: late, or a copy; it gives nothing, and all but the distance is 0. Else 0 */
+    uint8_t course;   /* of enum stewpigeon_course; late or a jump: all but course and distance is 0 */
     uint16_t loss;    /* how many blocks were lost before it: so many marks stand before its text */
-    int16_t distance; /* how far it is from the expected number; below 0 where it is late */
+    int16_t distance; /* from the expected number: forward 0 to 2,998, late -100 to -1, a break 0, a jump any other */
     size_t older;     /* how many older blocks the packet has */
     size_t given;     /* how many of its last blocks are given, the primary among them */
     size_t from;      /* their bytes are those of the packet from here */
@@ -150,9 +160,13 @@ struct stewpigeon_sender {
 uint8_t stewpigeon_receiver_open(struct stewpigeon_receiver *receiver, uint8_t t140, uint8_t red);
 
 /*
- * Gives a packet to the receiver. Answers 0 where it is accepted, and writes the step; the receiver moves on in place,
- * and `has_source` is 1, or it stays where the packet is late. Else answers the refusal's number, and then receiver and
- * step stay.
+ * Gives a packet to the receiver. Answers 0 where it is accepted, and writes the step. With a forward packet or a break
+ * the receiver moves on in place, `has_source` is 1, and `has_kept` and `kept` are 0. A jump makes both flags 1 and
+ * `kept` its number plus 1, wrapped, and leaves the rest. A late packet leaves the receiver. Else answers the refusal's
+ * number, and then receiver and step stay.
+ *
+ * So the second of two jumps whose numbers follow each other is a break, also with late and refused packets between
+ * them, but not with a forward one. What was lost before a break cannot be told: its text follows without a mark.
  */
 uint8_t stewpigeon_receiver_step(struct stewpigeon_receiver *receiver, const uint8_t *packet, size_t packet_len,
                                  struct stewpigeon_step *step);

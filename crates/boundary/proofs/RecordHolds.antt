@@ -5,8 +5,9 @@ use mathlib.Core.List.{List}
 use mathlib.Core.Bool.{Bool, true, false, cond}
 use Rattle.packet_spec.specs.Limits.{level}
 use Rattle.packet_spec.specs.Reading.{Read, holds, refused, reading}
-use Rattle.delivery.specs.Course.{courseOf, late, forward, Course, distance}
-use Rattle.receiver_spec.specs.State.{Receiver, sourceExpected}
+use Rattle.delivery.specs.Numbers.{next}
+use Rattle.delivery.specs.Course.{Course, forward, late, jump, break, courseOf, distance}
+use Rattle.receiver_spec.specs.State.{Receiver, keeping, isKept, sourceExpected}
 use Rattle.receiver_spec.specs.Step.{stepRead, firstStep, stepBy, stepOf}
 use Rattle.boundary.specs.declared.ReceiverRecord.{ReceiverRecord}
 use Rattle.boundary.specs.Receiving.{heldIn, lentRecord, receiverBehind}
@@ -17,7 +18,15 @@ flag-bit true = refl
 flag-bit false = refl
 
 pub held-record : (r : Receiver) → heldIn (lentRecord r) ≡ r
-held-record r = λ i. record { t140 = r .t140; red = r .red; hasSource = flag-bit (r .hasSource) i; source = r .source; expected = r .expected }
+held-record r = λ i. record {
+  t140 = r .t140;
+  red = r .red;
+  hasSource = flag-bit (r .hasSource) i;
+  source = r .source;
+  expected = r .expected;
+  hasKept = flag-bit (r .hasKept) i;
+  kept = r .kept;
+}
 
 pub held-step : (before : ReceiverRecord) (p : List ℕ) → heldIn (receiverBehind (stepOf (heldIn before) p) before) ≡ stepOf (heldIn before) p .receiver
 unfolding stepOf
@@ -28,14 +37,16 @@ held-step before p = go (reading level (sourceExpected r) (r .t140) (r .red) p)
 
     go : (x : Read) → heldIn (receiverBehind (stepRead (heldIn before) p x) before) ≡ stepRead (heldIn before) p x .receiver
     go (refused n) = refl
-    go (holds c) = by (r .hasSource) (courseOf d)
+    go (holds c) = by (r .hasSource) (courseOf d (isKept r (c .sequence)))
       where
         d : ℕ
         d = distance (c .sequence) (r .expected)
 
         by : (h : Bool) (v : Course)
-            → heldIn (receiverBehind (cond h (stepBy v (heldIn before) p c (distance (c .sequence) (heldIn before .expected))) (firstStep (heldIn before) p c)) before)
-            ≡ cond h (stepBy v (heldIn before) p c (distance (c .sequence) (heldIn before .expected))) (firstStep (heldIn before) p c) .receiver
+            → heldIn (receiverBehind (cond h (stepBy v (heldIn before) p c d) (firstStep (heldIn before) p c)) before)
+            ≡ cond h (stepBy v (heldIn before) p c d) (firstStep (heldIn before) p c) .receiver
         by true forward = refl
         by true late = refl
+        by true jump = held-record (keeping (heldIn before) (next (c .sequence)))
+        by true break = refl
         by false v = refl

@@ -7,7 +7,7 @@ ghost use Rattle.packet.specs.Places.{expectedSource};
 ghost use Rattle.receiver_spec.specs.Step.{stepOf};
 ghost use Rattle.receiver.specs.View.{receiverOf, stepAnswer, advanced};
 ghost use Rattle.boundary.specs.Answers.{expectedOf, textAnswer};
-ghost use Rattle.boundary.specs.Receiving.{heldIn, lentRecord, stepNumber, stepRecord};
+ghost use Rattle.boundary.specs.Receiving.{heldIn, lentRecord, stepNumber, nothingGiven, stepRecord};
 ghost use Rattle.receiver_spec.specs.Kinds.{wasRefused, wasLate};
 use packet::Expected;
 use packet::Outcome;
@@ -68,20 +68,25 @@ pub struct ReceiverRecord {
     pub t140: u8,
     pub red: u8,
     pub has_source: u8,
+    pub has_kept: u8,
     pub source: u32,
     pub expected: u16,
+    pub kept: u16,
 }
 
 pub fn receiver_of(lent: ReceiverRecord) -> Receiver
     ensures { λ r. ⌜ receiverOf r ≡ heldIn lent ⌝ }
 {
     let has_source = lent.has_source != 0;
+    let has_kept = lent.has_kept != 0;
     Receiver {
         t140: lent.t140,
         red: lent.red,
         has_source,
+        has_kept,
         source: lent.source,
         expected: lent.expected,
+        kept: lent.kept,
     }
 }
 
@@ -89,12 +94,15 @@ pub fn record_of(receiver: Receiver) -> ReceiverRecord
     ensures { λ r. ⌜ r ≡ lentRecord (receiverOf receiver) ⌝ }
 {
     let has_source = numbers::byte_of(receiver.has_source);
+    let has_kept = numbers::byte_of(receiver.has_kept);
     ReceiverRecord {
         t140: receiver.t140,
         red: receiver.red,
         has_source,
+        has_kept,
         source: receiver.source,
         expected: receiver.expected,
+        kept: receiver.kept,
     }
 }
 
@@ -112,6 +120,13 @@ pub fn is_refused(answer: Answer) -> bool
     match answer {
         Answer::Refused(_) => true,
         Answer::Late { distance: _ } => false,
+        Answer::Jump { distance: _ } => false,
+        Answer::Break {
+            older: _,
+            given: _,
+            from: _,
+            to: _,
+        } => false,
         Answer::Forward {
             loss: _,
             distance: _,
@@ -129,6 +144,13 @@ pub fn is_late(answer: Answer) -> bool
     match answer {
         Answer::Refused(_) => false,
         Answer::Late { distance: _ } => true,
+        Answer::Jump { distance: _ } => false,
+        Answer::Break {
+            older: _,
+            given: _,
+            from: _,
+            to: _,
+        } => false,
         Answer::Forward {
             loss: _,
             distance: _,
@@ -140,11 +162,11 @@ pub fn is_late(answer: Answer) -> bool
     }
 }
 
-// What a step answers, for a caller in C. A late packet has `late` 1 and its distance; a refused one has nothing to tell.
-// The text given is the packet's bytes from `from` up to `to`.
+// What a step answers, for a caller in C: the packet's course, and what it gives. A late packet and a jump have their distance
+// alone; a refused packet has nothing to tell. The text given is the packet's bytes from `from` up to `to`.
 #[repr(C)]
 pub struct Step {
-    pub late: u8,
+    pub course: u8,
     pub loss: u16,
     pub distance: i16,
     pub older: usize,
@@ -153,27 +175,51 @@ pub struct Step {
     pub to: usize,
 }
 
+impl Step {
+    // The courses.
+    pub const FORWARD: u8 = 0;
+
+    pub const LATE: u8 = 1;
+
+    pub const JUMP: u8 = 2;
+
+    pub const BREAK: u8 = 3;
+}
+
+fn nothing_given(course: u8, distance: i16) -> Step
+    ensures { λ r. ⌜ r ≡ nothingGiven course distance ⌝ }
+{
+    Step {
+        course,
+        loss: 0,
+        distance,
+        older: 0,
+        given: 0,
+        from: 0,
+        to: 0,
+    }
+}
+
 pub fn step_of(answer: Answer) -> Step
     ensures { λ r. ⌜ r ≡ stepRecord (stepAnswer answer) ⌝ }
 {
     match answer {
-        Answer::Refused(_) => Step {
-            late: 0,
+        Answer::Refused(_) => nothing_given(Step::FORWARD, 0),
+        Answer::Late { distance } => nothing_given(Step::LATE, distance),
+        Answer::Jump { distance } => nothing_given(Step::JUMP, distance),
+        Answer::Break {
+            older,
+            given,
+            from,
+            to,
+        } => Step {
+            course: Step::BREAK,
             loss: 0,
             distance: 0,
-            older: 0,
-            given: 0,
-            from: 0,
-            to: 0,
-        },
-        Answer::Late { distance } => Step {
-            late: 1,
-            loss: 0,
-            distance,
-            older: 0,
-            given: 0,
-            from: 0,
-            to: 0,
+            older,
+            given,
+            from,
+            to,
         },
         Answer::Forward {
             loss,
@@ -183,7 +229,7 @@ pub fn step_of(answer: Answer) -> Step
             from,
             to,
         } => Step {
-            late: 0,
+            course: Step::FORWARD,
             loss,
             distance,
             older,
@@ -194,13 +240,20 @@ pub fn step_of(answer: Answer) -> Step
     }
 }
 
-// 0 where the packet is accepted, late or not.
+// 0 where the packet is accepted, whatever its course.
 pub fn number_of_step(answer: Answer) -> u8
     ensures { λ r. ⌜ r ≡ stepNumber (stepAnswer answer) ⌝ }
 {
     match answer {
         Answer::Refused(refusal) => refusal.number(),
         Answer::Late { distance: _ } => 0,
+        Answer::Jump { distance: _ } => 0,
+        Answer::Break {
+            older: _,
+            given: _,
+            from: _,
+            to: _,
+        } => 0,
         Answer::Forward {
             loss: _,
             distance: _,

@@ -1,17 +1,17 @@
 -- Counts that fit, by plain facts; and that they still fit behind one packet more.
-use Prim.Native.Nat.{ℕ, _+_, _-_, _*_, _%_, _<_, _≤_}
+use Prim.Native.Nat.{ℕ, suc, _+_, _-_, _*_, _%_, _<_, _≤_}
 use mathlib.Core.Path.{_≡_, _∙_, refl, sym}
 use mathlib.Core.Bool.{true, _&&_}
 use native.Mathlib.Omega.{arith}
 use borrow.Author.Tests.{leb-true, le-leb}
 use lib.Dec.{leb}
-use lib.IntN.{ℤ}
+use lib.IntN.{ℤ, pos}
 use Rattle.base.proofs.Tests.{both, and-left, and-right}
 use Rattle.packet.specs.declared.Refusal.{Refusal}
 use Rattle.receiver.specs.declared.Answer.{Answer}
-use Rattle.receiver.specs.declared.Answer.the-variants.{Refused, Late, Forward}
+use Rattle.receiver.specs.declared.Answer.the-variants.{Refused, Late, Jump, Break, Forward}
 use Rattle.receiver.specs.View.{stepAnswer}
-use Rattle.receiver_spec.specs.Answers.{gives, isLate, refuses, StepAnswer}
+use Rattle.receiver_spec.specs.Answers.{gives, isBreak, isJump, isLate, refuses, StepAnswer}
 use Rattle.receiver_spec.specs.Record.{lossOf}
 use Rattle.journal_spec.specs.Contents.{limit}
 use Rattle.counts.specs.declared.Counts.{Counts}
@@ -92,6 +92,8 @@ module _ (k : Counts) (left : ℕ) (m : OneMore k left) where
   pub counted-fits : (a : StepAnswer) → lossOf a < 65536 → Kept (counted a k)
   counted-fits (refuses n) h = kept _ record { short = omega (arith, m .packets); packets = omega (arith, m .packets); late = omega (arith, m .late); refused = omega (arith, m .refused); lost = omega (arith, m .lost) }
   counted-fits (isLate z) h = kept _ record { short = omega (arith, m .packets); packets = omega (arith, m .packets); late = omega (arith, m .late); refused = omega (arith, m .refused); lost = omega (arith, m .lost) }
+  counted-fits (isJump z) h = kept _ record { short = omega (arith, m .packets); packets = omega (arith, m .packets); late = omega (arith, m .late); refused = omega (arith, m .refused); lost = omega (arith, m .lost) }
+  counted-fits (isBreak g) h = kept _ record { short = omega (arith, m .packets); packets = omega (arith, m .packets); late = omega (arith, m .late); refused = omega (arith, m .refused); lost = omega (arith, m .lost) }
   counted-fits (gives g) h = kept _ record { short = omega (arith, m .packets); packets = omega (arith, m .packets); late = omega (arith, m .late); refused = omega (arith, m .refused); lost = omega (arith, m .lost) }
 
 module _ (k r : Counts) (x : Answer) where
@@ -111,6 +113,14 @@ module _ (k r : Counts) (x : Answer) where
   pub late-counted : (z : ℤ) → x ≡ Late z → r ≡ wrapped64 (counted (isLate z) k)
       → (r ≡ wrapped64 (counted (stepAnswer x) k)) × Counting (stepAnswer x) k r
   late-counted z q e = counting (rw q (omega arith)) (rw q e)
+
+  pub jump-counted : (z : ℤ) → x ≡ Jump z → r ≡ wrapped64 (counted (isJump z) k)
+      → (r ≡ wrapped64 (counted (stepAnswer x) k)) × Counting (stepAnswer x) k r
+  jump-counted z q e = counting (rw q (omega arith)) (rw q e)
+
+  pub break-counted : (o g f t : ℕ) → x ≡ Break o g f t → r ≡ wrapped64 (counted (stepAnswer (Break o g f t)) k)
+      → (r ≡ wrapped64 (counted (stepAnswer x) k)) × Counting (stepAnswer x) k r
+  break-counted o g f t q e = counting (rw q (omega arith)) (rw q e)
 
   pub forward-counted : (n : ℕ) (z : ℤ) (o g f t : ℕ) → n < 65536 → x ≡ Forward n z o g f t
       → r ≡ wrapped64 (counted (gives record { loss = n; distance = z; older = o; given = g; from = f; to = t }) k)

@@ -11,12 +11,12 @@ use Rattle.packet_spec.specs.Header.{typesBad}
 use Rattle.receiver_spec.specs.Opening.{openReceiver}
 use Rattle.receiver_spec.specs.State.{zeroReceiver, Receiver}
 use Rattle.receiver_spec.specs.Step.{stepOf}
-use Rattle.receiver_spec.specs.Answers.{gives, isLate, refuses, StepAnswer}
-use Rattle.receiver_spec.specs.Kinds.{wasForward, wasLate, wasRefused}
+use Rattle.receiver_spec.specs.Answers.{gives, isBreak, isJump, isLate, refuses, StepAnswer}
+use Rattle.receiver_spec.specs.Kinds.{wasRefused}
 use Rattle.journal_spec.specs.Records.{Record, ending, opening, beginning, piece, time, bad, recordsOf}
 use Rattle.journal_spec.specs.Contents.{Contents, opens, packet, ends, breaks, unopened, between, within, areZeros, longestPacket, contentsOf, limit, journalOf}
 use Rattle.journal_spec.specs.Lines.{countsLine, brokenLine}
-use Rattle.journal_spec.specs.Transcript.{packetsIn, isWhole, answersOf, printedOf, printedText, howMany, lostIn, printed, transcript}
+use Rattle.journal_spec.specs.Transcript.{packetsIn, isWhole, answersOf, printedOf, printedText, countsAsPacket, countsAsLate, howMany, lostIn, printed, transcript}
 use Rattle.counts.specs.Counts.{noCounts, counted, lineOf}
 
 -- what is printed of the contents still to come
@@ -79,7 +79,7 @@ opens-first (opening t140 red ∷ rs) = go (typesBad t140 red)
 -- the counts over a list of answers, on top of those so far
 abbrev lineWith : Counts → List StepAnswer → List ℕ
 lineWith k answers =
-    countsLine (k .packets + howMany wasForward answers) (k .late + howMany wasLate answers) (k .lost + lostIn answers) (k .refused + howMany wasRefused answers)
+    countsLine (k .packets + howMany countsAsPacket answers) (k .late + howMany countsAsLate answers) (k .lost + lostIn answers) (k .refused + howMany wasRefused answers)
 
 same-line : {a a' b b' c c' d d' : ℕ} → a ≡ a' → b ≡ b' → c ≡ c' → d ≡ d' → countsLine a b c d ≡ countsLine a' b' c' d'
 same-line p q r s = λ i. countsLine (p i) (q i) (r i) (s i)
@@ -87,6 +87,8 @@ same-line p q r s = λ i. countsLine (p i) (q i) (r i) (s i)
 count-one : (k : Counts) (a : StepAnswer) (answers : List StepAnswer) → lineWith (counted a k) answers ≡ lineWith k (a ∷ answers)
 count-one k (refuses n) answers = same-line (omega arith) (omega arith) (omega arith) (omega arith)
 count-one k (isLate z) answers = same-line (omega arith) (omega arith) (omega arith) (omega arith)
+count-one k (isJump z) answers = same-line (omega arith) (omega arith) (omega arith) (omega arith)
+count-one k (isBreak g) answers = same-line (omega arith) (omega arith) (omega arith) (omega arith)
 count-one k (gives g) answers = same-line (omega arith) (omega arith) (omega arith) (omega arith)
 
 -- the text, and the line that closes it

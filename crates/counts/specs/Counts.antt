@@ -5,7 +5,7 @@ use mathlib.Core.Bool.{Bool, true, _&&_}
 use mathlib.Core.List.{List}
 use lib.Dec.{leb}
 use Rattle.counts.specs.declared.Counts.{Counts}
-use Rattle.receiver_spec.specs.Answers.{gives, isLate, refuses, StepAnswer}
+use Rattle.receiver_spec.specs.Answers.{gives, isBreak, isJump, isLate, refuses, StepAnswer}
 use Rattle.journal_spec.specs.Contents.{limit}
 use Rattle.journal_spec.specs.Lines.{countsLine}
 
@@ -15,6 +15,8 @@ noCounts = record { packets = 0; late = 0; lost = 0; refused = 0 }
 abbrev pub counted : StepAnswer → Counts → Counts
 counted (refuses n) c = record { packets = c .packets; late = c .late; lost = c .lost; refused = c .refused + 1 }
 counted (isLate z) c = record { packets = c .packets; late = c .late + 1; lost = c .lost; refused = c .refused }
+counted (isJump z) c = record { packets = c .packets; late = c .late + 1; lost = c .lost; refused = c .refused }
+counted (isBreak g) c = record { packets = c .packets + 1; late = c .late; lost = c .lost + g .loss; refused = c .refused }
 counted (gives g) c = record { packets = c .packets + 1; late = c .late; lost = c .lost + g .loss; refused = c .refused }
 
 -- as numbers of 64 bits

@@ -4,7 +4,7 @@ ghost use Rattle.receiver.specs.View.{stepAnswer};
 ghost use Rattle.counts.specs.Counts.{noCounts, counted, wrapped64, countsFit, Counting};
 use receiver::Answer;
 
-// Of the packets read: those neither late nor refused, those late, the blocks lost, and those refused.
+// Of the packets read: those neither late nor refused, those late (jumps among them), the blocks lost, and those refused.
 pub struct Counts {
     pub packets: u64,
     pub late: u64,
@@ -41,6 +41,17 @@ impl Counts {
             }
             Answer::Late { distance: _ } => {
                 more.late = std::num::wrapping_add_u64(self.late, 1);
+            }
+            Answer::Jump { distance: _ } => {
+                more.late = std::num::wrapping_add_u64(self.late, 1);
+            }
+            Answer::Break {
+                older: _,
+                given: _,
+                from: _,
+                to: _,
+            } => {
+                more.packets = std::num::wrapping_add_u64(self.packets, 1);
             }
             Answer::Forward {
                 loss,

@@ -6,5 +6,6 @@ pub mod WrappedDistance
 pub mod Ranges
 pub mod Arrivals
 pub mod Delivered
+pub mod StartsAfresh
 pub mod Edges
 pub mod NoLoss

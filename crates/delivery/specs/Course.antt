@@ -1,25 +1,40 @@
--- How far ahead of the expected number a packet is, which way that is, and what it then adds (01, "The receiver's step").
+-- How far ahead of the expected number a packet is, what that makes of it, and what it then adds (01, "The receiver's step"; 02,
+-- request 4).
 use Prim.Native.Nat.{ℕ, _+_, _-_, min}
-use mathlib.Core.Bool.{cond}
-use lib.Dec.{ltb}
-use Rattle.delivery.specs.Numbers.{circle, wrapped}
+use mathlib.Core.Bool.{Bool, cond}
+use lib.Dec.{leb, ltb, eqb}
+use Rattle.delivery.specs.Numbers.{circle, wrapped, next}
 
 -- the distance d of 01: "(sequence minus expected) wrapped"
 abbrev pub distance : ℕ → ℕ → ℕ
 distance sequence expected = wrapped (sequence + circle - expected)
 
--- what is less than this ahead of the expected number is forward
-abbrev pub half : ℕ
-half = 32768
+-- the same from the newest number, which is the one before the expected
+abbrev pub fromNewest : ℕ → ℕ
+fromNewest d = next d
 
--- what a packet is to a receiver that expects a number: forward, or "late"
+-- the limits of RFC 3550, appendix A.1: MAX_DROPOUT and MAX_MISORDER
+abbrev pub maxDropout : ℕ
+maxDropout = 3000
+
+abbrev pub maxMisorder : ℕ
+maxMisorder = 100
+
+-- what a packet is to a receiver that accepted one before
 pub data Course : Type 0 where
   forward : Course
   late : Course
+  jump : Course
+  break : Course  -- "a jump whose number is the one kept"
+
+-- "Measured from the newest number, 1 to 2,999 is forward; 0, or 65,437 and above, is late; the rest is a jump"; and whether the
+-- packet's number is the one kept
+abbrev pub courseFrom : ℕ → Bool → Course
+courseFrom n kept = cond (eqb n 0) late (cond (ltb n maxDropout) forward (cond (leb n (circle - maxMisorder)) (cond kept break jump) late))
 
 -- the course at distance d: the one place where it is decided
-abbrev pub courseOf : ℕ → Course
-courseOf d = cond (ltb d half) forward late
+abbrev pub courseOf : ℕ → Bool → Course
+courseOf d kept = courseFrom (fromNewest d) kept
 
 -- "loss is d minus r, or 0 if r is larger", at distance d with r older blocks
 abbrev pub loss : ℕ → ℕ → ℕ

@@ -7,10 +7,10 @@ circle = 65536
 
 -- demand 3's window: how far an accepted packet may be ahead of the newest accepted so far, and how far behind it
 abbrev pub mostAhead : ℕ
-mostAhead = 32768
+mostAhead = 2999
 
 abbrev pub mostBehind : ℕ
-mostBehind = 32767
+mostBehind = 99
 
 -- "wrapped to 0..65,535"
 abbrev pub wrapped : ℕ → ℕ

@@ -1,6 +1,6 @@
 -- Demand 1.
 use Prim.Native.Nat.{ℕ, suc}
-use mathlib.Core.Path.{_≡_, refl, ap, sym}
+use mathlib.Core.Path.{_≡_, _∙_, refl, ap, sym}
 use mathlib.Core.List.{List}
 use mathlib.Core.Bool.{Bool, true, false, cond, not}
 use native.Mathlib.Omega.{arith}
@@ -10,12 +10,11 @@ use Rattle.base.specs.Checks.{numberBy}
 use Rattle.packet_spec.specs.Limits.{level}
 use Rattle.packet_spec.specs.Header.{typesBad}
 use Rattle.packet_spec.specs.Reading.{Content, Read, holds, refused, reading}
-use Rattle.delivery.specs.Course.{courseOf, late, forward, Course, distance}
 use Rattle.receiver_spec.specs.Opening as receiver
 use Rattle.receiver_spec.specs.Opening.{receiverRefused}
-use Rattle.receiver_spec.specs.Answers.{Opening, refuses}
+use Rattle.receiver_spec.specs.Answers.{Opening, refuses, isAccepted}
 use Rattle.receiver_spec.specs.State.{zeroReceiver, freshReceiver, openingChecks, Receiver, sourceExpected}
-use Rattle.receiver_spec.specs.Step.{stepRead, firstStep, stepBy, stepOf}
+use Rattle.receiver_spec.specs.Step.{stepRead, stepOf}
 use Rattle.sender_spec.specs.State.{Settings, Sender, freshSender, zeroSender}
 use Rattle.sender_spec.specs.Answers as answers
 use Rattle.sender_spec.specs.Answers.{CallResult, ClockResult}
@@ -27,6 +26,7 @@ use Rattle.sender_spec.specs.Clocking.{clockChecks}
 use Rattle.demands.specs.Ours.{ours}
 use Rattle.demands.specs.Demand1.{OnlyClock, Demand1}
 use Rattle.base.proofs.InOrder.{checked-of, refused-by}
+use Rattle.receiver_spec.proofs.Core.{accepts}
 use Rattle.sender_spec.proofs.Calls as calls
 use Rattle.sender_spec.proofs.ChecksPassed.{open-passed, clock-passed}
 use Rattle.sender_spec.proofs.Shapes as shapes
@@ -74,12 +74,7 @@ sender-refused x n = go (eqb (settingsNumber x) 0)
 
 -- an answer to an accepted packet is no refusal
 accepted-not : (r : Receiver) (p : List ℕ) (c : Content) (n : ℕ) → stepRead r p (holds c) .answer ≡ refuses n → ⊥
-accepted-not r p c n = by (r .hasSource) (courseOf (distance (c .sequence) (r .expected)))
-  where
-    by : (h : Bool) (v : Course) → cond h (stepBy v r p c (distance (c .sequence) (r .expected))) (firstStep r p c) .answer ≡ refuses n → ⊥
-    by true forward e = let z : _≡_ {A = ℕ} 0 1 = cc in omega arith
-    by true late e = let z : _≡_ {A = ℕ} 0 1 = cc in omega arith
-    by false v e = let z : _≡_ {A = ℕ} 0 1 = cc in omega arith
+accepted-not r p c n e = let z : true ≡ false = sym (accepts r p c) ∙ ap isAccepted e in absurd (let w : _≡_ {A = ℕ} 0 1 = cc in omega arith)
 
 step-is : (r : Receiver) (p : List ℕ) (n : ℕ) (x : Read) → stepRead r p x .answer ≡ refuses n → x ≡ refused n
 step-is r p n (refused k) e = let q : k ≡ n = cc in ap refused q

@@ -3,7 +3,7 @@
 use Prim.Native.Nat.{ℕ, suc}
 use mathlib.Core.Path.{_≡_, refl, ap}
 use mathlib.Core.List.{List, [], _∷_, map}
-use mathlib.Core.Bool.{true, cond}
+use mathlib.Core.Bool.{true, false, cond}
 use native.Mathlib.Omega.{arith}
 use lib.Dec.{ltb}
 use lib.IntN.{pos, negsuc}
@@ -18,7 +18,7 @@ use Rattle.delivery.specs.Run.{Rules, senderOf}
 use Rattle.receiver_spec.specs.Opening as receiver
 use Rattle.receiver_spec.specs.State.{Receiver}
 use Rattle.receiver_spec.specs.Step.{stepOf}
-use Rattle.receiver_spec.specs.Answers.{Step, gives, isLate, refuses, StepAnswer, Given}
+use Rattle.receiver_spec.specs.Answers.{Step, gives, isBreak, isJump, isLate, refuses, StepAnswer, Given}
 use Rattle.receiver_spec.specs.Record.{recordOf, acceptedOf}
 use Rattle.sender_spec.specs.State.{Settings}
 use Rattle.sender_spec.specs.Settings.{settingsNumber}
@@ -125,7 +125,7 @@ pub sender-openings-refuse-fails : Demand1 closed → ⊥
 sender-openings-refuse-fails d = let z : _≡_ {A = ℕ} 1 0 = d .sender-number (settings 2) in omega arith
 
 -- our line with another step
-abbrev withStep : (Receiver → List ℕ → Step) → Line
+abbrev pub withStep : (Receiver → List ℕ → Step) → Line
 withStep step = record {
   text = ours .text;
   read = ours .read;
@@ -179,10 +179,12 @@ pub late-for-ever-fails : Demand3 (withStep lateForEver) → ⊥
 unfolding stepOf reading headers sender.openSender settingsNumber offerOf clockOf
 late-for-ever-fails d = let z : _≡_ {A = ℕ} 1 2 = as-many lateForEver d (0 ∷ 1 ∷ []) refl (omega arith, omega arith, tt) in omega arith
 
--- another answer where a packet gives something
+-- another answer where a packet is forward
 abbrev givesBy : (Given → Given) → Step → StepAnswer → Step
 givesBy f s (refuses n) = s
 givesBy f s (isLate z) = s
+givesBy f s (isJump z) = s
+givesBy f s (isBreak g) = s
 givesBy f s (gives g) = record { receiver = s .receiver; answer = gives (f g) }
 
 -- a made-up loss: one mark more than were lost
@@ -212,7 +214,7 @@ sixteenForEver r p = cond (r .hasSource) (record { receiver = r; answer = refuse
 pub sixteen-for-ever-fails : Demand1 (withStep sixteenForEver) → ⊥
 unfolding stepOf reading headers sender.openSender settingsNumber offerOf clockOf
 sixteen-for-ever-fails d =
-    let r : Receiver = record { t140 = 98; red = 100; hasSource = true; source = 7; expected = 0 } in
+    let r : Receiver = record { t140 = 98; red = 100; hasSource = true; source = 7; expected = 0; hasKept = false; kept = 0 } in
     let q = d .step-number r (packet 1) 16 .0 refl in
     let z : _≡_ {A = ℕ} 0 1 = ap numberOf q in
     omega arith

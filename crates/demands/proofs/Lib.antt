@@ -9,8 +9,10 @@ pub mod Demand3
 pub mod RateTimes
 pub mod RateKept
 pub mod Rate
+pub mod Courses
 pub mod LineTests
 pub mod ImpostorReceivers
 pub mod ImpostorSenders
 pub mod ImpostorRates
 pub mod Printed
+pub mod ImpostorCourses

@@ -1,6 +1,6 @@
 -- A line: what a maker's calls answer, with the state and the lent bytes behind them. The demands are predicates of a line.
--- `Ours` is the one whose calls the code is proved to make; those of proofs/ImpostorReceivers, ImpostorSenders and
--- ImpostorRates fail.
+-- `Ours` is the one whose calls the code is proved to make; those of proofs/ImpostorReceivers, ImpostorSenders, ImpostorRates
+-- and ImpostorCourses fail.
 use Prim.Native.Nat.{ℕ}
 use mathlib.Core.List.{List}
 use Rattle.text_spec.specs.Utf8.{Text}

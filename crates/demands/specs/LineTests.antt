@@ -1,4 +1,4 @@
--- 01's line tests T1 to T12, as one table: each row a call, made on a receiver or a sender, and all that comes of it. Where a
+-- 01's line tests T1 to T12 (T7 and T8 by 02's request 4), as one table: each row a call, made on a receiver or a sender, and all that comes of it. Where a
 -- test goes on, its next row's call is made on what the row before left. T140 is 98, RED 100.
 use Prim.Native.Nat.{ℕ}
 use mathlib.Core.Path.{_≡_}
@@ -12,9 +12,9 @@ use Rattle.packet_spec.specs.Header.{Any}
 use Rattle.packet_spec.specs.Redundancy.{Block}
 use Rattle.packet_spec.specs.Reading.{Read, holds, refused, reading}
 use Rattle.receiver_spec.specs.Opening as receiver
-use Rattle.receiver_spec.specs.State.{Receiver, readBy}
+use Rattle.receiver_spec.specs.State.{Receiver, keeping, readBy}
 use Rattle.receiver_spec.specs.Step.{stepOf, textGiven}
-use Rattle.receiver_spec.specs.Answers.{gives, isLate, refuses, StepAnswer}
+use Rattle.receiver_spec.specs.Answers.{gives, isJump, isLate, refuses, StepAnswer}
 use Rattle.sender_spec.specs.State as state
 use Rattle.sender_spec.specs.State.{Settings, Sender}
 use Rattle.sender_spec.specs.Answers as answers
@@ -65,7 +65,7 @@ abbrev pub justOpened : Receiver
 justOpened = receiver.openReceiver 98 100 .receiver
 
 abbrev pub expecting : ℕ → ℕ → Receiver
-expecting source n = record { t140 = 98; red = 100; hasSource = true; source = source; expected = n }
+expecting source n = record { t140 = 98; red = 100; hasSource = true; source = source; expected = n; hasKept = false; kept = 0 }
 
 -- a step's answer: loss, distance, number of older blocks, number of blocks given, and where these start and end
 abbrev pub given : ℕ → ℤ → ℕ → ℕ → ℕ → ℕ → StepAnswer
@@ -174,9 +174,9 @@ table =
     ∷ testRow T6 (step (expecting 0 65535) (redundant 0 0 one))
     (steps (read no-M 0 0 0 (ago 300 A ∷ []) []) (given 0 (pos 1) 1 2 17 18) A (expecting 0 1))
     ∷ testRow T7 (step (expecting 0 6) (plain 0x80 0x05 []))
-    (steps (read no-M 32773 0 0 [] []) (given 32767 (pos 32767) 0 1 12 12) [] (expecting 0 32774))
+    (steps (read no-M 32773 0 0 [] []) (isJump (pos 32767)) [] (keeping (expecting 0 6) 32774))
     ∷ testRow T8 (step (expecting 0 6) (plain 0x80 0x06 []))
-    (steps (read no-M 32774 0 0 [] []) (isLate (negsuc 32767)) [] (expecting 0 6))
+    (steps (read no-M 32774 0 0 [] []) (isJump (negsuc 32767)) [] (keeping (expecting 0 6) 32775))
     ∷ testRow T9 (step justOpened (plain 0 0 (0xED ∷ 0xA0 ∷ 0x80 ∷ [])))
     (steps (refused 21) (refuses 21) [] justOpened)
     ∷ testRow T10 (step justOpened (plain 0 0 (0xF4 ∷ 0x8F ∷ 0xBF ∷ 0xBF ∷ [])))

@@ -13,12 +13,11 @@ use Rattle.base.specs.Arrays.{part, over}
 use Rattle.base.proofs.Tests.{both}
 use Rattle.base.proofs.Fronts.{drop-take}
 use Rattle.base.proofs.PartOf.{part-mid}
-use Rattle.packet.specs.declared.Refusal.{Refusal}
 use Rattle.receiver.specs.declared.Answer.{Answer}
-use Rattle.receiver.specs.declared.Answer.the-variants.{Refused, Late, Forward}
+use Rattle.receiver.specs.declared.Answer.the-variants.{Break, Forward}
 use Rattle.receiver.specs.View.{stepAnswer}
 use Rattle.receiver_spec.specs.Step.{textGiven}
-use Rattle.receiver_spec.specs.Answers.{gives, isLate, refuses, StepAnswer}
+use Rattle.receiver_spec.specs.Answers.{Given, gives, isBreak, isJump, isLate, refuses, StepAnswer}
 use Rattle.receiver_spec.specs.Record.{lossOf}
 use Rattle.receiver_spec.proofs.GivenWithin.{Within}
 use Rattle.journal_spec.specs.Contents.{longestPacket}
@@ -34,15 +33,18 @@ module _ (p : List ℕ) (size : ℕ) (small : size ≤ longestPacket) (long : lo
   front : length (take size p) ≡ size
   front = length-take-le size p (omega arith)
 
+  given-within : (g : Given) → Within (take size p) (gives g) → dueWithin (dueOf (gives g)) ≡ true
+  given-within g w = both (le-leb (g .from) (g .to) (w .0)) (le-leb (g .to) longestPacket (omega (arith, w .1, front)))
+
   pub answer-within : (a : StepAnswer) → Within (take size p) a → dueWithin (dueOf a) ≡ true
   answer-within (refuses n) w = refl
   answer-within (isLate z) w = refl
-  answer-within (gives g) w = both (le-leb (g .from) (g .to) (w .0)) (le-leb (g .to) longestPacket (omega (arith, w .1, front)))
+  answer-within (isJump z) w = refl
+  answer-within (isBreak g) w = given-within g w
+  answer-within (gives g) w = given-within g w
 
-  pub answer-text : (a : StepAnswer) → Within (take size p) a → textDue (dueOf a) p ≡ textGiven (take size p) a
-  answer-text (refuses n) w = none-text p
-  answer-text (isLate z) w = none-text p
-  answer-text (gives g) w =
+  given-text : (g : Given) → Within (take size p) (gives g) → textDue (dueOf (gives g)) p ≡ textGiven (take size p) (gives g)
+  given-text g w =
       let f = g .from in
       let t = g .to in
       let i : t ≤ size = omega (arith, w .1, front) in
@@ -51,9 +53,18 @@ module _ (p : List ℕ) (size : ℕ) (small : size ≤ longestPacket) (long : lo
       ∙ ap (take (t - f)) (drop-take f size p)
       ∙ take-take (t - f) (size - f) (drop f p) (omega arith))
 
+  pub answer-text : (a : StepAnswer) → Within (take size p) a → textDue (dueOf a) p ≡ textGiven (take size p) a
+  answer-text (refuses n) w = none-text p
+  answer-text (isLate z) w = none-text p
+  answer-text (isJump z) w = none-text p
+  answer-text (isBreak g) w = given-text g w
+  answer-text (gives g) w = given-text g w
+
 pub answer-marks : (a : StepAnswer) → dueOf a .marks ≡ lossOf a
 answer-marks (refuses n) = refl
 answer-marks (isLate z) = refl
+answer-marks (isJump z) = refl
+answer-marks (isBreak g) = refl
 answer-marks (gives g) = refl
 
 -- a line over the front of p
@@ -85,8 +96,5 @@ none-is d p ok long =
 pub forward-due : (a : Answer) (n : ℕ) (z : ℤ) (o g f t : ℕ) → a ≡ Forward n z o g f t → record { marks = n; from = f; to = t } ≡ dueOf (stepAnswer a)
 forward-due a n z o g f t e = rw e
 
-pub refused-due : (a : Answer) (n : Refusal) → a ≡ Refused n → emptyDue ≡ dueOf (stepAnswer a)
-refused-due a n e = rw e
-
-pub late-due : (a : Answer) (z : ℤ) → a ≡ Late z → emptyDue ≡ dueOf (stepAnswer a)
-late-due a z e = rw e
+pub break-due : (a : Answer) (o g f t : ℕ) → a ≡ Break o g f t → record { marks = 0; from = f; to = t } ≡ dueOf (stepAnswer a)
+break-due a o g f t e = rw e

@@ -4,7 +4,7 @@ use mathlib.Core.Bool.{Bool, _&&_}
 use mathlib.Core.List.{List}
 use lib.Dec.{leb, eqb}
 use Rattle.base.specs.Arrays.{part}
-use Rattle.receiver_spec.specs.Answers.{gives, isLate, refuses, StepAnswer}
+use Rattle.receiver_spec.specs.Answers.{gives, isBreak, isJump, isLate, refuses, StepAnswer}
 use Rattle.journal_spec.specs.Contents.{longestPacket}
 use Rattle.printing.specs.Fitting.{marksFitting, textFitting}
 use Rattle.due.specs.declared.Due.{Due}
@@ -20,6 +20,8 @@ lineDue n = record { marks = 0; from = 0; to = n }
 abbrev pub dueOf : StepAnswer → Due
 dueOf (refuses n) = emptyDue
 dueOf (isLate z) = emptyDue
+dueOf (isJump z) = emptyDue
+dueOf (isBreak g) = record { marks = g .loss; from = g .from; to = g .to }
 dueOf (gives g) = record { marks = g .loss; from = g .from; to = g .to }
 
 abbrev pub noneDue : Due → Bool

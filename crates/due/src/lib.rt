@@ -62,8 +62,15 @@ impl Due {
                 from,
                 to,
             },
+            Answer::Break {
+                older: _,
+                given: _,
+                from,
+                to,
+            } => Due { marks: 0, from, to },
             Answer::Refused(_) => Due::none(),
             Answer::Late { distance: _ } => Due::none(),
+            Answer::Jump { distance: _ } => Due::none(),
         }
     }
 

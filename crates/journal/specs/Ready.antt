@@ -20,7 +20,7 @@ use Rattle.journal.specs.declared.Transcript.{Transcript}
 
 -- no receiver is open yet
 abbrev pub noReceiver : Receiver
-noReceiver = record { t140 = 0; red = 0; «has_source» = false; source = 0; expected = 0 }
+noReceiver = record { t140 = 0; red = 0; «has_source» = false; «has_kept» = false; source = 0; expected = 0; kept = 0 }
 
 -- before the first byte
 abbrev pub first : Transcript

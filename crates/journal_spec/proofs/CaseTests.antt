@@ -17,9 +17,12 @@ packetA =
     0x02 ∷ 0x00 ∷ 0x12 ∷ 0x03 ∷ 0x80 ∷ 0x64 ∷ 0x00 ∷ 0x05 ∷ 0x00 ∷ 0x00 ∷ 0x03 ∷ 0xE8 ∷ 0x11 ∷ 0x22 ∷ 0x33 ∷ 0x44
     ∷ 0xE2 ∷ 0x04 ∷ 0xB0 ∷ 0x01 ∷ 0x03 ∷ 0x62 ∷ 0x41 ∷ replicate 14 0
 
--- plain `B` from the same source, two numbers on
+-- a plain letter from the same source, with the two bytes of its number; and `B` two numbers behind packet A
+abbrev letter : ℕ → ℕ → ℕ → List ℕ
+letter high low x = 0x02 ∷ 0x00 ∷ 0x0D ∷ 0x03 ∷ 0x80 ∷ 0x62 ∷ high ∷ low ∷ 0x00 ∷ 0x00 ∷ 0x03 ∷ 0xE8 ∷ 0x11 ∷ 0x22 ∷ 0x33 ∷ 0x44 ∷ x ∷ replicate 3 0
+
 abbrev packetB : List ℕ
-packetB = 0x02 ∷ 0x00 ∷ 0x0D ∷ 0x03 ∷ 0x80 ∷ 0x62 ∷ 0x00 ∷ 0x07 ∷ 0x00 ∷ 0x00 ∷ 0x03 ∷ 0xE8 ∷ 0x11 ∷ 0x22 ∷ 0x33 ∷ 0x44 ∷ 0x42 ∷ replicate 3 0
+packetB = letter 0x00 0x07 0x42
 
 -- a journal and what it prints
 pub record Row : Type 0 where
@@ -54,6 +57,13 @@ rows =
     -- a copy is late, and a number left out is marked and counted
     ∷ record { journal = opened (packetA ++ (packetA ++ (0x00 ∷ []))); prints = 65 ∷ countsLine 1 1 0 0 }
     ∷ record { journal = opened (packetA ++ (packetB ++ (0x00 ∷ []))); prints = 65 ∷ 0xEF ∷ 0xBF ∷ 0xBD ∷ 66 ∷ countsLine 2 0 1 0 }
+    -- a jump counts as late, and a break as a packet, without a mark; a copy between them is late
+    ∷ record { journal = opened (packetA ++ (letter 0x20 0x00 0x43 ++ (0x00 ∷ []))); prints = 65 ∷ countsLine 1 1 0 0 }
+    ∷ record { journal = opened (packetA ++ (letter 0x20 0x00 0x43 ++ (letter 0x20 0x01 0x44 ++ (0x00 ∷ [])))); prints = 65 ∷ 68 ∷ countsLine 2 1 0 0 }
+    ∷ record {
+      journal = opened (packetA ++ (letter 0x20 0x00 0x43 ++ (packetA ++ (letter 0x20 0x01 0x44 ++ (0x00 ∷ [])))));
+      prints = 65 ∷ 68 ∷ countsLine 2 2 0 0;
+    }
     -- times before the open and between packets
     ∷ record { journal = time ++ opened (time ++ (0x00 ∷ [])); prints = countsLine 0 0 0 0 }
     -- a packet of length 0 is read at once, and refused
@@ -77,7 +87,7 @@ rows =
 
 pub journal-tests : Holds rows
 unfolding transcript journalOf limit contentsOf recordsUpTo stepOf reading headers
-journal-tests = (refl, (refl, (refl, (refl, (refl, (refl, (refl, (refl, (refl, (refl, (refl, (refl, (refl, (refl, (refl, (refl, (refl, (refl, tt))))))))))))))))))
+journal-tests = (refl, (refl, (refl, (refl, (refl, (refl, (refl, (refl, (refl, (refl, (refl, (refl, (refl, (refl, (refl, (refl, (refl, (refl, (refl, (refl, (refl, tt)))))))))))))))))))))
 
 -- the line of counts
 pub counts-line : countsLine 1 0 0 0

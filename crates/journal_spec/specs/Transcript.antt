@@ -2,12 +2,12 @@
 -- text and counts.
 use Prim.Native.Nat.{ℕ, _+_}
 use mathlib.Core.List.{List, [], _∷_, _++_}
-use mathlib.Core.Bool.{Bool, true, false, cond}
+use mathlib.Core.Bool.{Bool, true, false, cond, not, _||_}
 use Rattle.receiver_spec.specs.Opening.{openReceiver}
 use Rattle.receiver_spec.specs.State.{zeroReceiver, Receiver}
 use Rattle.receiver_spec.specs.Step.{stepOf, textGiven}
 use Rattle.receiver_spec.specs.Answers.{StepAnswer}
-use Rattle.receiver_spec.specs.Kinds.{wasForward, wasLate, wasRefused}
+use Rattle.receiver_spec.specs.Kinds.{wasRefused, wasLate, wasJump}
 use Rattle.receiver_spec.specs.Record.{lossOf}
 use Rattle.receiver_spec.specs.Marks.{marks}
 use Rattle.journal_spec.specs.Contents.{Contents, opens, packet, ends, breaks, journalOf}
@@ -45,7 +45,14 @@ abbrev pub printedText : Receiver → List (List ℕ) → List ℕ
 printedText r [] = []
 printedText r (p ∷ ps) = printedOf p (stepOf r p .answer) ++ printedText (stepOf r p .receiver) ps
 
--- the counts, over the list of answers: ""packets" counts those neither late nor refused"
+-- a jump "counts as late in the transcript"; ""packets" counts those neither late nor refused"
+abbrev pub countsAsLate : StepAnswer → Bool
+countsAsLate a = wasLate a || wasJump a
+
+abbrev pub countsAsPacket : StepAnswer → Bool
+countsAsPacket a = not (countsAsLate a || wasRefused a)
+
+-- the counts, over the list of answers
 abbrev pub howMany : (StepAnswer → Bool) → List StepAnswer → ℕ
 howMany f [] = 0
 howMany f (a ∷ answers) = cond (f a) 1 0 + howMany f answers
@@ -55,7 +62,7 @@ lostIn [] = 0
 lostIn (a ∷ answers) = lossOf a + lostIn answers
 
 abbrev pub lineFor : List StepAnswer → List ℕ
-lineFor answers = countsLine (howMany wasForward answers) (howMany wasLate answers) (lostIn answers) (howMany wasRefused answers)
+lineFor answers = countsLine (howMany countsAsPacket answers) (howMany countsAsLate answers) (lostIn answers) (howMany wasRefused answers)
 
 abbrev pub printed : Contents → List ℕ
 printed c =

@@ -16,13 +16,13 @@ use Rattle.packet_spec.specs.Redundancy.{joined}
 use Rattle.packet_spec.specs.Reading.{Content, holds, reading, blocks, startsAt}
 use Rattle.packet.specs.Refusal.{number}
 use Rattle.packet.specs.Places.{numbered, placed, startOf, readOf}
-use Rattle.delivery.specs.Course.{courseOf, late, forward, Course, distance, wanted, loss}
+use Rattle.delivery.specs.Course.{Course, forward, late, jump, break, courseOf, distance, wanted, loss}
 use Rattle.delivery.specs.Record.{lastOf}
-use Rattle.receiver_spec.specs.State.{Receiver, sourceExpected}
+use Rattle.receiver_spec.specs.State.{Receiver, isKept, sourceExpected}
 use Rattle.receiver_spec.specs.Distance.{signed}
-use Rattle.receiver_spec.specs.Step.{movedTo, givenFrom, stepRead, firstStep, stepBy, stepOf}
-use Rattle.receiver_spec.specs.Answers.{Step, gives, refuses}
-use Rattle.receiver.specs.internal.Accepted.{followed, laterBy, laterAccepted, acceptedStep}
+use Rattle.receiver_spec.specs.Step.{movedTo, givenFrom, allOf, stepRead, firstStep, stepBy, stepOf}
+use Rattle.receiver_spec.specs.Answers.{Step, gives, isBreak, refuses}
+use Rattle.receiver.specs.internal.Accepted.{followed, jumped, broken, leapt, laterBy, laterAccepted, acceptedStep}
 use Rattle.packet_spec.proofs.RefusalNumbers.{reading-positive}
 use Rattle.packet_spec.proofs.BlockRuns.{reach, joined-split}
 use Rattle.packet_spec.proofs.BlocksLie.{Lies, lies, few, blocks-length}
@@ -35,6 +35,14 @@ module _ (r : Receiver) (k : Packet) where
 
   pub first-step : r .hasSource ≡ false → followed r k 0 (pos 0) (k .count) ≡ acceptedStep r k
   first-step e = sym (ap (λ (h : Bool). cond h (laterAccepted r k (distance (k .sequence) (r .expected))) (followed r k 0 (pos 0) (k .count))) e)
+
+  -- far from the expected number: a break or a jump
+  pub leapt-step : (d : ℕ) → courseOf d (isKept r (k .sequence)) ≡ cond (isKept r (k .sequence)) break jump → leapt r k (signed d) ≡ laterAccepted r k d
+  leapt-step d v = go (isKept r (k .sequence)) ∙ sym (ap (λ (c : Course). laterBy c r k d) v)
+    where
+      go : (b : Bool) → cond b (broken r k) (jumped r k (signed d)) ≡ laterBy (cond b break jump) r k d
+      go true = refl
+      go false = refl
 
 -- over the places of a content
 module _ (r : Receiver) (p : List ℕ) (c : Content) (l : Lies p c) where
@@ -50,11 +58,18 @@ module _ (r : Receiver) (p : List ℕ) (c : Content) (l : Lies p c) where
       let f : startsAt p c 0 + reach bs (n - w) ≡ payloadEnd p - length (joined (drop (n - w) bs)) = omega arith in
       start-at level p c l (n - w) (omega arith) ∙ f ∙ ap (λ (i : ℕ). payloadEnd p - length (joined (drop i bs))) (sym k)
 
-  follows : (marks : ℕ) (z : ℤ) (w : ℕ) → w ≤ length (c .older) → followed r (placed level p c) marks z w ≡ record { receiver = movedTo r c; answer = gives (givenFrom p c marks z w) }
-  follows marks z w h = ap (λ (from : ℕ). record { receiver = movedTo r c; answer = gives (record { loss = marks; distance = z; older = length (c .older); given = suc w; from = from; to = payloadEnd p }) }) (starts w h)
+  follows : (marks : ℕ) (z : ℤ) (w : ℕ) → w ≤ length (c .older) → followed r (placed level p c) marks z w ≡ record { receiver = movedTo r (c .source) (c .sequence); answer = gives (givenFrom p c marks z w) }
+  follows marks z w h = ap (λ (from : ℕ). record { receiver = movedTo r (c .source) (c .sequence); answer = gives (record { loss = marks; distance = z; older = length (c .older); given = suc w; from = from; to = payloadEnd p }) }) (starts w h)
+
+  breaks : broken r (placed level p c) ≡ record { receiver = movedTo r (c .source) (c .sequence); answer = isBreak (allOf p c) }
+  breaks =
+      let n = length (c .older) in
+      let none : n - n ≡ 0 = omega arith in
+      ap (λ (from : ℕ). record { receiver = movedTo r (c .source) (c .sequence); answer = isBreak (record { loss = 0; distance = pos 0; older = n; given = suc n; from = from; to = payloadEnd p }) })
+      (ap (startOf (placed level p c)) (sym none) ∙ starts n (omega arith))
 
   same-step : acceptedStep r (placed level p c) ≡ stepRead r p (holds c)
-  same-step = by (r .hasSource) (courseOf d)
+  same-step = by (r .hasSource) (courseOf d (isKept r (c .sequence)))
     where
       d : ℕ
       d = distance (c .sequence) (r .expected)
@@ -65,6 +80,8 @@ module _ (r : Receiver) (p : List ℕ) (c : Content) (l : Lies p c) where
       by : (h : Bool) (v : Course) → cond h (laterBy v r (placed level p c) d) (followed r (placed level p c) 0 (pos 0) n) ≡ cond h (stepBy v r p c d) (firstStep r p c)
       by true forward = follows (loss d n) (signed d) (wanted d n) (omega arith)
       by true late = refl
+      by true jump = refl
+      by true break = breaks
       by false v = follows 0 (pos 0) n (omega arith)
 
 module _ (r : Receiver) (p : List ℕ) (x : Reading) (e : numbered x ≡ readOf (sourceExpected r) (r .t140) (r .red) p) where

@@ -4,4 +4,12 @@ use Rattle.receiver.specs.declared.Receiver.{Receiver}
 use Rattle.receiver.specs.View.{receiverOf}
 
 pub same-receiver : (a b : Receiver) → receiverOf a ≡ receiverOf b → a ≡ b
-same-receiver a b e = λ i. record { t140 = e i .t140; red = e i .red; «has_source» = e i .hasSource; source = e i .source; expected = e i .expected }
+same-receiver a b e = λ i. record {
+  t140 = e i .t140;
+  red = e i .red;
+  «has_source» = e i .hasSource;
+  «has_kept» = e i .hasKept;
+  source = e i .source;
+  expected = e i .expected;
+  kept = e i .kept;
+}

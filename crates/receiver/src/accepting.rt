@@ -5,7 +5,9 @@ ghost use Rattle.packet_spec.specs.Limits.{level};
 ghost use Rattle.delivery.specs.Course as Course;
 ghost use Rattle.delivery.specs.Numbers as Numbers;
 ghost use Rattle.receiver_spec.specs.Distance as Distance;
-ghost use Rattle.receiver.specs.internal.Accepted.{followed, laterAccepted, acceptedStep};
+ghost use Rattle.receiver_spec.specs.State.{isKept};
+ghost use Rattle.receiver_spec.specs.Step.{movedTo};
+ghost use Rattle.receiver.specs.internal.Accepted.{followed, leapt, laterAccepted, acceptedStep};
 ghost use Rattle.receiver.specs.View.{receiverOf, advanced};
 use crate::Advanced;
 use crate::Answer;
@@ -56,7 +58,23 @@ fn wanted_of(d: u16, older: usize) -> usize
     older
 }
 
-// A forward packet: its last `wanted` older blocks and its primary are given, and the next number is expected.
+// The receiver behind a packet that gives its text: the next number is expected, and none is kept.
+fn moved(receiver: Receiver, source: u32, sequence: u16) -> Receiver
+    ensures { λ r. ⌜ receiverOf r ≡ movedTo (receiverOf receiver) source sequence ⌝ }
+{
+    let expected = next(sequence);
+    Receiver {
+        t140: receiver.t140,
+        red: receiver.red,
+        has_source: true,
+        has_kept: false,
+        source,
+        expected,
+        kept: 0,
+    }
+}
+
+// A forward packet: its last `wanted` older blocks and its primary are given.
 fn follow(receiver: Receiver, packet: Packet, loss: u16, distance: i16, wanted: usize) -> Advanced
     requires { ⌜ (wanted ≤ packet .count) × (packet .count ≤ level) ⌝ }
     ensures { λ r. ⌜ advanced r ≡ followed (receiverOf receiver) packet loss distance wanted ⌝ }
@@ -65,15 +83,9 @@ fn follow(receiver: Receiver, packet: Packet, loss: u16, distance: i16, wanted: 
     let first = older - wanted;
     let from = packet.start_of(first);
     let given = wanted + 1;
-    let expected = next(packet.sequence);
+    let receiver = moved(receiver, packet.source, packet.sequence);
     Advanced {
-        receiver: Receiver {
-            t140: receiver.t140,
-            red: receiver.red,
-            has_source: true,
-            source: packet.source,
-            expected,
-        },
+        receiver,
         answer: Answer::Forward {
             loss,
             distance,
@@ -85,6 +97,51 @@ fn follow(receiver: Receiver, packet: Packet, loss: u16, distance: i16, wanted: 
     }
 }
 
+fn is_kept(receiver: Receiver, sequence: u16) -> bool
+    ensures { λ r. ⌜ r ≡ isKept (receiverOf receiver) sequence ⌝ }
+{
+    if receiver.has_kept {
+        return sequence == receiver.kept;
+    }
+    false
+}
+
+// A packet too far from the expected number: a break where its number is the one kept, else a jump, which keeps the next.
+fn leap(receiver: Receiver, packet: Packet, distance: i16) -> Advanced
+    requires { ⌜ packet .count ≤ level ⌝ }
+    ensures { λ r. ⌜ advanced r ≡ leapt (receiverOf receiver) packet distance ⌝ }
+{
+    if is_kept(receiver, packet.sequence) {
+        let from = packet.start_of(0);
+        let older = packet.count;
+        let given = older + 1;
+        let to = packet.end;
+        let receiver = moved(receiver, packet.source, packet.sequence);
+        return Advanced {
+            receiver,
+            answer: Answer::Break {
+                older,
+                given,
+                from,
+                to,
+            },
+        };
+    }
+    let kept = next(packet.sequence);
+    Advanced {
+        receiver: Receiver {
+            t140: receiver.t140,
+            red: receiver.red,
+            has_source: receiver.has_source,
+            has_kept: true,
+            source: receiver.source,
+            expected: receiver.expected,
+            kept,
+        },
+        answer: Answer::Jump { distance },
+    }
+}
+
 // A packet behind the first.
 fn accept_later(receiver: Receiver, packet: Packet) -> Advanced
     requires { ⌜ packet .count ≤ level ⌝ }
@@ -93,10 +150,16 @@ fn accept_later(receiver: Receiver, packet: Packet) -> Advanced
     let d = ahead(packet.sequence, receiver.expected);
     let distance = signed(d);
     if distance < 0 {
+        if distance < Receiver::FIRST_LATE {
+            return leap(receiver, packet, distance);
+        }
         return Advanced {
             receiver,
             answer: Answer::Late { distance },
         };
+    }
+    if Receiver::LAST_FORWARD < distance {
+        return leap(receiver, packet, distance);
     }
     let older = packet.count;
     let loss = loss_of(d, older);

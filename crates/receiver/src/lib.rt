@@ -13,14 +13,17 @@ use packet::Expected;
 use packet::Outcome;
 use packet::Refusal;
 
-// The payload types; the source, once the first packet was accepted; the sequence number that is expected next.
+// The payload types; the source, once the first packet was accepted; the sequence number that is expected next; the number
+// that a jump kept, 0 where none is.
 #[repr(C)]
 pub struct Receiver {
     pub t140: u8,
     pub red: u8,
     pub has_source: bool,
+    pub has_kept: bool,
     pub source: u32,
     pub expected: u16,
+    pub kept: u16,
 }
 
 pub struct Opened {
@@ -28,12 +31,22 @@ pub struct Opened {
     pub receiver: Receiver,
 }
 
-// What a step answers. A late packet (01's "late") gives nothing. A forward one gives its last `given` blocks, the
-// primary among them; they lie from `from` up to `to` in the packet, which has `older` older blocks.
+// What a step answers. A late packet and a jump give nothing. A forward packet and a break give their last `given` blocks,
+// the primary among them; these lie from `from` up to `to` in the packet, which has `older` older blocks. A break gives all
+// of them, and its loss and distance are 0.
 pub enum Answer {
     Refused(Refusal),
     Late {
         distance: i16,
+    },
+    Jump {
+        distance: i16,
+    },
+    Break {
+        older: usize,
+        given: usize,
+        from: usize,
+        to: usize,
     },
     Forward {
         loss: u16,
@@ -65,8 +78,10 @@ fn fresh(t140: u8, red: u8) -> Receiver
         t140,
         red,
         has_source: false,
+        has_kept: false,
         source: 0,
         expected: 0,
+        kept: 0,
     }
 }
 
@@ -81,6 +96,11 @@ fn source_expected(known: bool, source: u32) -> Expected
 }
 
 impl Receiver {
+    // The distances of late and forward packets, by the limits of RFC 3550, appendix A.1; all others are jumps.
+    const FIRST_LATE: i16 = -100;
+
+    const LAST_FORWARD: i16 = 2998;
+
     pub fn open(t140: u8, red: u8) -> Opened
         ensures { λ r. ⌜ opening r ≡ openReceiver t140 red ⌝ }
     {
@@ -146,6 +166,13 @@ pub fn text(packet: &[u8], answer: Answer) -> &[u8]
     match answer {
         Answer::Refused(_) => &packet[..0],
         Answer::Late { distance: _ } => &packet[..0],
+        Answer::Jump { distance: _ } => &packet[..0],
+        Answer::Break {
+            older: _,
+            given: _,
+            from,
+            to,
+        } => packet::part(packet, from, to),
         Answer::Forward {
             loss: _,
             distance: _,

@@ -2,7 +2,7 @@
 use Prim.Native.Nat.{ℕ, _*_, _/_, _%_}
 use mathlib.Core.Path.{_≡_, refl}
 use mathlib.Core.List.{List, [], _∷_}
-use mathlib.Core.Bool.{true}
+use mathlib.Core.Bool.{true, false}
 use Rattle.packet_spec.specs.Redundancy.{headers, offsets}
 use Rattle.packet_spec.specs.Reading.{Read, holds, refused, reading}
 use Rattle.receiver_spec.specs.State.{Receiver, freshReceiver, readBy}
@@ -34,7 +34,7 @@ Holds (row ∷ rows) = (toldOf (readBy (row .receiver) (row .packet)) ≡ row .t
 
 -- a receiver that has this source, and expects number 6
 abbrev of : ℕ → Receiver
-of source = record { t140 = 98; red = 100; hasSource = true; source = source; expected = 6 }
+of source = record { t140 = 98; red = 100; hasSource = true; source = source; expected = 6; hasKept = false; kept = 0 }
 
 abbrev fresh : Receiver
 fresh = freshReceiver 98 100

@@ -2,15 +2,17 @@
 use Prim.Native.Nat.{ℕ, suc, _≤_}
 use mathlib.Core.Path.{_≡_, _∙_, refl, ap, ap₂, sym}
 use mathlib.Core.List.{List, [], _∷_, _++_, map, nil≢cons, cons≢nil, head-eq-of-cons-eq, tail-eq-of-cons-eq}
-use mathlib.Core.Bool.{Bool, true, false, cond}
+use mathlib.Core.Bool.{Bool, true, false, cond, _&&_}
+use mathlib.Core.Option.{Option, none, some}
 use native.Mathlib.Omega.{arith}
+use lib.Dec.{eqb}
 use lib.ListN.{length, length-map}
 use Rattle.packet_spec.specs.Header.{Any}
-use Rattle.receiver_spec.specs.State.{Receiver, readBy}
+use Rattle.receiver_spec.specs.State.{Receiver, isKept, readBy}
 use Rattle.packet_spec.specs.Limits.{level}
 use Rattle.packet_spec.specs.Redundancy.{blocksOf}
 use Rattle.packet_spec.specs.Reading.{Content, Read, holds, refused, reading}
-use Rattle.delivery.specs.Course.{courseOf, late, forward, Course, distance, wanted, loss}
+use Rattle.delivery.specs.Course.{Course, forward, late, jump, break, courseOf, distance, wanted, loss}
 use Rattle.delivery.specs.internal.Core as core
 use Rattle.delivery.specs.Record.{Entry, entries, lastOf}
 use Rattle.delivery.specs.Sending.{BlockSender}
@@ -33,8 +35,11 @@ abbrev packets : Receiver → List (List ℕ) → List core.Packet
 packets r [] = []
 packets r (p ∷ ps) = packetsRead (readBy r p) ++ packets (stepOf r p .receiver) ps
 
+abbrev keptBy : Receiver → Option ℕ
+keptBy r = cond (r .hasKept) (some (r .kept)) none
+
 abbrev pub state : Receiver → core.BlockReceiver
-state r = cond (r .hasSource) (core.expects (r .expected)) core.fresh
+state r = cond (r .hasSource) (core.expects (r .expected) (keptBy r)) core.fresh
 
 -- one step: what it adds to the record, and the receiver after it
 module _ (r : Receiver) (p : List ℕ) (c : Content) (e : readBy r p ≡ holds c) where
@@ -44,6 +49,13 @@ module _ (r : Receiver) (p : List ℕ) (c : Content) (e : readBy r p ≡ holds c
   given-is : (w : ℕ) → w ≤ length (c .older) → lastOf (suc w) (blocksOf (c .older) (c .primary)) ≡ core.lastBlocks w (packetOf c)
   given-is w h = last-snoc w (map (λ b. b .bytes) (c .older)) (c .primary) (omega (arith, same-length))
 
+  -- all blocks, as of the first packet
+  all-is : entries 0 (lastOf (suc (length (c .older))) (blocksIn (readBy r p))) ≡ core.addsFirst (packetOf c)
+  all-is =
+      ap (λ (x : Read). entries 0 (lastOf (suc (length (c .older))) (blocksIn x))) e
+      ∙ ap (entries 0) (given-is (length (c .older)) (omega arith))
+      ∙ ap (λ (k : ℕ). entries 0 (core.lastBlocks k (packetOf c))) (sym same-length)
+
   adds-is : (h : Bool) (v : Course) (d : ℕ)
       → entriesOf r p (cond h (stepBy v r p c d) (firstStep r p c) .answer) ≡ cond h (core.addsAt v d (packetOf c)) (core.adds core.fresh (packetOf c))
   adds-is true forward d =
@@ -51,37 +63,52 @@ module _ (r : Receiver) (p : List ℕ) (c : Content) (e : readBy r p ≡ holds c
       ∙ ap (entries (loss d (length (c .older)))) (given-is (wanted d (length (c .older))) (omega arith))
       ∙ ap (λ (k : ℕ). entries (loss d k) (core.lastBlocks (wanted d k) (packetOf c))) (sym same-length)
   adds-is true late d = refl
-  adds-is false v d =
-      ap (λ (x : Read). entries 0 (lastOf (suc (length (c .older))) (blocksIn x))) e
-      ∙ ap (entries 0) (given-is (length (c .older)) (omega arith))
-      ∙ ap (λ (k : ℕ). entries 0 (core.lastBlocks k (packetOf c))) (sym same-length)
+  adds-is true jump d = refl
+  adds-is true break d = all-is
+  adds-is false v d = all-is
 
   after-is : (h : Bool) (v : Course) (d : ℕ)
-      → state (cond h (stepBy v (record { t140 = r .t140; red = r .red; hasSource = h; source = r .source; expected = r .expected }) p c d) (firstStep r p c) .receiver)
-      ≡ cond h (core.receiverAfterAt v (r .expected) (packetOf c)) (core.receiverAfter core.fresh (packetOf c))
+      → state (cond h (stepBy v (record { t140 = r .t140; red = r .red; hasSource = h; source = r .source; expected = r .expected; hasKept = r .hasKept; kept = r .kept }) p c d) (firstStep r p c) .receiver)
+      ≡ cond h (core.receiverAfterAt v (r .expected) (keptBy r) (packetOf c)) (core.receiverAfter core.fresh (packetOf c))
   after-is true forward d = refl
   after-is true late d = refl
+  after-is true jump d = refl
+  after-is true break d = refl
   after-is false v d = refl
 
-adds-state : (h : Bool) (x : ℕ) (k : core.Packet)
-    → cond h (core.addsAt (courseOf (distance (k .sequence) x)) (distance (k .sequence) x) k) (core.adds core.fresh k) ≡ core.adds (cond h (core.expects x) core.fresh) k
-adds-state true x k = refl
-adds-state false x k = refl
+-- the course, by the receiver and by its state
+course-is : (h : Bool) (k n d : ℕ) → courseOf d (h && eqb n k) ≡ courseOf d (core.isKept (cond h (some k) none) n)
+course-is true k n d = refl
+course-is false k n d = refl
 
-after-state : (h : Bool) (x : ℕ) (k : core.Packet)
-    → cond h (core.receiverAfterAt (courseOf (distance (k .sequence) x)) x k) (core.receiverAfter core.fresh k) ≡ core.receiverAfter (cond h (core.expects x) core.fresh) k
-after-state true x k = refl
-after-state false x k = refl
+adds-state : (h : Bool) (x : ℕ) (kept : Option ℕ) (k : core.Packet)
+    → cond h (core.addsAt (core.courseAt x kept k) (distance (k .sequence) x) k) (core.adds core.fresh k) ≡ core.adds (cond h (core.expects x kept) core.fresh) k
+adds-state true x kept k = refl
+adds-state false x kept k = refl
+
+after-state : (h : Bool) (x : ℕ) (kept : Option ℕ) (k : core.Packet)
+    → cond h (core.receiverAfterAt (core.courseAt x kept k) x kept k) (core.receiverAfter core.fresh k) ≡ core.receiverAfter (cond h (core.expects x kept) core.fresh) k
+after-state true x kept k = refl
+after-state false x kept k = refl
 
 module _ (r : Receiver) (p : List ℕ) (c : Content) (e : readBy r p ≡ holds c) where
   abbrev d : ℕ
   d = distance (c .sequence) (r .expected)
 
+  same-course : courseOf d (isKept r (c .sequence)) ≡ core.courseAt (r .expected) (keptBy r) (packetOf c)
+  same-course = course-is (r .hasKept) (r .kept) (c .sequence) d
+
   pub step-adds : entriesOf r p (stepRead r p (holds c) .answer) ≡ core.adds (state r) (packetOf c)
-  step-adds = adds-is r p c e (r .hasSource) (courseOf d) d ∙ adds-state (r .hasSource) (r .expected) (packetOf c)
+  step-adds =
+      adds-is r p c e (r .hasSource) (courseOf d (isKept r (c .sequence))) d
+      ∙ ap (λ (v : Course). cond (r .hasSource) (core.addsAt v d (packetOf c)) (core.adds core.fresh (packetOf c))) same-course
+      ∙ adds-state (r .hasSource) (r .expected) (keptBy r) (packetOf c)
 
   pub step-after : state (stepRead r p (holds c) .receiver) ≡ core.receiverAfter (state r) (packetOf c)
-  step-after = after-is r p c e (r .hasSource) (courseOf d) d ∙ after-state (r .hasSource) (r .expected) (packetOf c)
+  step-after =
+      after-is r p c e (r .hasSource) (courseOf d (isKept r (c .sequence))) d
+      ∙ ap (λ (v : Course). cond (r .hasSource) (core.receiverAfterAt v (r .expected) (keptBy r) (packetOf c)) (core.receiverAfter core.fresh (packetOf c))) same-course
+      ∙ after-state (r .hasSource) (r .expected) (keptBy r) (packetOf c)
 
 one-step : (r : Receiver) (p : List ℕ) (rest : List core.Packet) (x : Read) → readBy r p ≡ x
     → entriesOf r p (stepRead r p x .answer) ++ core.recordFrom (state (stepRead r p x .receiver)) rest ≡ core.recordFrom (state r) (packetsRead x ++ rest)
@@ -100,24 +127,30 @@ same-record (p ∷ ps) r =
 -- what a step keeps, and whether it accepts
 pub keeps-types : (r : Receiver) (p : List ℕ) (x : Read) → (stepRead r p x .receiver .t140 ≡ r .t140) × (stepRead r p x .receiver .red ≡ r .red)
 keeps-types r p (refused n) = (refl, refl)
-keeps-types r p (holds c) = by (r .hasSource) (courseOf (distance (c .sequence) (r .expected)))
+keeps-types r p (holds c) = by (r .hasSource) (courseOf d (isKept r (c .sequence)))
   where
     d : ℕ
     d = distance (c .sequence) (r .expected)
 
     by : (h : Bool) (v : Course)
-        → (cond h (stepBy v r p c (distance (c .sequence) (r .expected))) (firstStep r p c) .receiver .t140 ≡ r .t140)
-        × (cond h (stepBy v r p c (distance (c .sequence) (r .expected))) (firstStep r p c) .receiver .red ≡ r .red)
+        → (cond h (stepBy v r p c d) (firstStep r p c) .receiver .t140 ≡ r .t140) × (cond h (stepBy v r p c d) (firstStep r p c) .receiver .red ≡ r .red)
     by true forward = (refl, refl)
     by true late = (refl, refl)
+    by true jump = (refl, refl)
+    by true break = (refl, refl)
     by false v = (refl, refl)
 
 pub accepts : (r : Receiver) (p : List ℕ) (c : Content) → isAccepted (stepRead r p (holds c) .answer) ≡ true
-accepts r p c = by (r .hasSource) (courseOf (distance (c .sequence) (r .expected)))
+accepts r p c = by (r .hasSource) (courseOf d (isKept r (c .sequence)))
   where
-    by : (h : Bool) (v : Course) → isAccepted (cond h (stepBy v r p c (distance (c .sequence) (r .expected))) (firstStep r p c) .answer) ≡ true
+    d : ℕ
+    d = distance (c .sequence) (r .expected)
+
+    by : (h : Bool) (v : Course) → isAccepted (cond h (stepBy v r p c d) (firstStep r p c) .answer) ≡ true
     by true forward = refl
     by true late = refl
+    by true jump = refl
+    by true break = refl
     by false v = refl
 
 -- a sender's packets, wherever they are read, are the core's

@@ -8,7 +8,7 @@ use native.Mathlib.Omega.{arith}
 use Rattle.delivery.specs.Record.{Entry, block}
 use Rattle.receiver_spec.specs.State.{Receiver}
 use Rattle.receiver_spec.specs.Step.{stepOf}
-use Rattle.receiver_spec.specs.Answers.{gives, isLate, refuses, StepAnswer, isAccepted}
+use Rattle.receiver_spec.specs.Answers.{gives, isBreak, isJump, isLate, refuses, StepAnswer, isAccepted}
 use Rattle.receiver_spec.specs.Record.{entriesOf, recordOf, acceptedOf}
 
 -- packet by packet, and block by block
@@ -20,6 +20,8 @@ pub data OneEach : Receiver → List (List ℕ) → List (List ℕ) → Type 0 w
 adds-accepted : (r : Receiver) (p b : List ℕ) (a : StepAnswer) → entriesOf r p a ≡ block b ∷ [] → isAccepted a ≡ true
 adds-accepted r p b (refuses n) e = absurd (let z : _≡_ {A = ℕ} 0 1 = ap length e in omega arith)
 adds-accepted r p b (isLate z) e = refl
+adds-accepted r p b (isJump z) e = refl
+adds-accepted r p b (isBreak g) e = refl
 adds-accepted r p b (gives g) e = refl
 
 pub all-accepted : {r : Receiver} {ps bs : List (List ℕ)} → OneEach r ps bs → acceptedOf stepOf r ps ≡ ps

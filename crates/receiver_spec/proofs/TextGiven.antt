@@ -6,12 +6,12 @@ use mathlib.Core.Bool.{Bool, true, false, cond}
 use native.Mathlib.Omega.{arith}
 use lib.IntN.{ℤ, pos}
 use lib.ListN.{length}
-use Rattle.receiver_spec.specs.State.{Receiver, readBy, sourceExpected}
+use Rattle.receiver_spec.specs.State.{Receiver, isKept, readBy, sourceExpected}
 use Rattle.packet_spec.specs.Limits.{level}
 use Rattle.packet_spec.specs.Header.{payloadEnd}
 use Rattle.packet_spec.specs.Redundancy.{joined}
 use Rattle.packet_spec.specs.Reading.{Content, Read, holds, refused, blocks}
-use Rattle.delivery.specs.Course.{courseOf, late, forward, Course, distance, wanted, loss}
+use Rattle.delivery.specs.Course.{Course, forward, late, jump, break, courseOf, distance, wanted, loss}
 use Rattle.delivery.specs.Record.{lastOf}
 use Rattle.receiver_spec.specs.Step.{givenFrom, stepRead, firstStep, stepBy, stepOf, textGiven}
 use Rattle.receiver_spec.specs.Answers.{gives}
@@ -38,7 +38,7 @@ text-is-blocks r p = go (readBy r p) refl
     go : (x : Read) → readBy r p ≡ x
         → textGiven p (stepRead r p x .answer) ≡ joined (blocksGiven r p (stepRead r p x .answer))
     go (refused n) e = refl
-    go (holds c) e = by (r .hasSource) (courseOf d)
+    go (holds c) e = by (r .hasSource) (courseOf d (isKept r (c .sequence)))
       where
         d : ℕ
         d = distance (c .sequence) (r .expected)
@@ -50,4 +50,6 @@ text-is-blocks r p = go (readBy r p) refl
             → textGiven p (cond h (stepBy v r p c d) (firstStep r p c) .answer) ≡ joined (blocksGiven r p (cond h (stepBy v r p c d) (firstStep r p c) .answer))
         by true forward = text-of-given r p c e (loss d n) (signed d) (wanted d n) (omega arith)
         by true late = refl
+        by true jump = refl
+        by true break = text-of-given r p c e 0 (pos 0) n (omega arith)
         by false v = text-of-given r p c e 0 (pos 0) n (omega arith)

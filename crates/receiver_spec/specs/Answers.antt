@@ -9,7 +9,7 @@ pub record Opening : Type 0 where
   pub number : ℕ
   pub receiver : Receiver
 
--- what a forward packet gives: the number of marks, the signed distance, how many older blocks it has, how many of its
+-- what a packet gives: the number of marks, the signed distance, how many older blocks it has, how many of its
 -- last blocks are given, and where these start and end
 pub record Given : Type 0 where
   pub loss : ℕ
@@ -23,14 +23,18 @@ pub record Given : Type 0 where
 pub data StepAnswer : Type 0 where
   refuses : ℕ → StepAnswer
   isLate : ℤ → StepAnswer
+  isJump : ℤ → StepAnswer
+  isBreak : Given → StepAnswer
   gives : Given → StepAnswer
 
 pub record Step : Type 0 where
   pub receiver : Receiver
   pub answer : StepAnswer
 
--- accepted: answered without a refusal number, late or not
+-- accepted: answered without a refusal number, whatever its course
 abbrev pub isAccepted : StepAnswer → Bool
 isAccepted (refuses n) = false
 isAccepted (isLate z) = true
+isAccepted (isJump z) = true
+isAccepted (isBreak g) = true
 isAccepted (gives g) = true

@@ -5,7 +5,7 @@ use mathlib.Core.List.{List, [], _∷_, _++_}
 use Rattle.packet_spec.specs.Reading.{Read, holds, refused, blocks}
 use Rattle.delivery.specs.Record.{Entry, entries, lastOf}
 use Rattle.receiver_spec.specs.State.{Receiver, readBy}
-use Rattle.receiver_spec.specs.Answers.{StepAnswer, refuses, isLate, gives, Step, isAccepted}
+use Rattle.receiver_spec.specs.Answers.{StepAnswer, refuses, isLate, isJump, isBreak, gives, Step, isAccepted}
 
 -- the blocks of a packet, oldest first and the primary last
 abbrev pub blocksIn : Read → List (List ℕ)
@@ -16,11 +16,15 @@ blocksIn (holds c) = blocks c
 abbrev pub blocksGiven : Receiver → List ℕ → StepAnswer → List (List ℕ)
 blocksGiven r p (refuses n) = []
 blocksGiven r p (isLate z) = []
+blocksGiven r p (isJump z) = []
+blocksGiven r p (isBreak g) = lastOf (g .given) (blocksIn (readBy r p))
 blocksGiven r p (gives g) = lastOf (g .given) (blocksIn (readBy r p))
 
 abbrev pub lossOf : StepAnswer → ℕ
 lossOf (refuses n) = 0
 lossOf (isLate z) = 0
+lossOf (isJump z) = 0
+lossOf (isBreak g) = g .loss
 lossOf (gives g) = g .loss
 
 abbrev pub entriesOf : Receiver → List ℕ → StepAnswer → List Entry

@@ -19,8 +19,8 @@ pub extern "C" fn stewpigeon_receiver_open(receiver: &mut ReceiverRecord, t140: 
     boundary::number_of(opened.outcome)
 }
 
-// The receiver's step: 0 where the packet is accepted, late or not, else the refusal's number. A refused packet leaves both
-// records, a late one the receiver's.
+// The receiver's step: 0 where the packet is accepted, whatever its course, else the refusal's number. A refused packet leaves
+// both records, a late one the receiver's.
 #[no_mangle]
 pub extern "C" fn stewpigeon_receiver_step(
     receiver: &mut ReceiverRecord,

@@ -35,6 +35,7 @@ usage: bench
        bench reading|texts
        bench offers|sending|quiet LEVEL TIMES
        bench text|read KIND TIMES
+       bench step line TIMES
 LEVEL is 0 to 4. KIND is the first word of a row that `bench texts` prints; for
 read also mixed and line.";
 
@@ -95,6 +96,12 @@ fn reads(kind: &str, times: usize) -> Option<usize> {
     Some(reading::repeated(&packets, times))
 }
 
+/// Gives a receiver the packets of a line, so many times over.
+fn steps(kind: &str, times: usize) -> Option<usize> {
+    let packets = (kind == "line").then(|| packets::line(SEED, COUNTED))?;
+    Some(stepping::repeated(&packets, times))
+}
+
 /// Makes calls of one kind, so many times over. Answers how many calls, letters
 /// or packets a turn has; none where the words name no kind.
 fn repeated(calls: &str, of: &str, times: &str) -> Option<usize> {
@@ -102,6 +109,7 @@ fn repeated(calls: &str, of: &str, times: &str) -> Option<usize> {
     match calls {
         "text" => texts::repeated(of, times),
         "read" => reads(of, times),
+        "step" => steps(of, times),
         _ => sends(calls, of, times),
     }
 }

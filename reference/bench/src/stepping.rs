@@ -1,16 +1,16 @@
 //! A receiver over one line of packets.
 
-use crate::contest::{add, contest, timed};
+use crate::contest::{add, contest, passes, timed};
 use crate::inputs::Inputs;
 use compare::say;
-use independent::receiver::{Answer, Receiver};
+use independent::receiver::{Added, Answer, Receiver};
 use stewpigeon::lent;
 
 fn figure(step: &lent::Step) -> u64 {
     let distance = step.distance as u64;
     let blocks = 7 * step.older + 11 * step.given + 13 * step.from + 17 * step.to;
-    let late = 1000 * u64::from(step.late);
-    late + 3 * u64::from(step.loss) + 5u64.wrapping_mul(distance) + blocks as u64
+    let course = 1000 * u64::from(step.course);
+    course + 3 * u64::from(step.loss) + 5u64.wrapping_mul(distance) + blocks as u64
 }
 
 fn proved(packets: &Inputs) -> u64 {
@@ -33,33 +33,44 @@ fn independent_step<'a>(receiver: &mut Receiver, packet: &'a [u8]) -> Answer<'a>
     receiver.step(packet)
 }
 
+fn nothing(course: u8, distance: i32) -> u64 {
+    figure(&lent::Step {
+        course,
+        distance: distance as i16,
+        ..lent::Step::ZERO
+    })
+}
+
+fn given(course: u8, added: &Added) -> u64 {
+    let (from, to) = added.place();
+    figure(&lent::Step {
+        course,
+        loss: added.loss,
+        distance: added.distance as i16,
+        older: added.older(),
+        given: added.wanted + 1,
+        from,
+        to,
+    })
+}
+
 fn independent(packets: &Inputs) -> u64 {
     let mut receiver = Receiver::open(98, 100).expect("good payload types");
     let mut sum = 0;
     for packet in packets.iter() {
-        let mut step = lent::Step::ZERO;
         let figure = match independent_step(&mut receiver, packet) {
             Answer::Refused(number) => u64::from(number),
-            Answer::Late { distance } => {
-                step.late = 1;
-                step.distance = distance as i16;
-                figure(&step)
-            }
-            Answer::Forward(forward) => {
-                step.loss = forward.loss;
-                step.distance = forward.distance as i16;
-                step.older = forward.older();
-                step.given = forward.wanted + 1;
-                (step.from, step.to) = forward.place();
-                figure(&step)
-            }
+            Answer::Late { distance } => nothing(lent::Step::LATE, distance),
+            Answer::Jump { distance } => nothing(lent::Step::JUMP, distance),
+            Answer::Forward(added) => given(lent::Step::FORWARD, &added),
+            Answer::Break(added) => given(lent::Step::BREAK, &added),
         };
         sum = add(sum, figure);
     }
     sum
 }
 
-/// How many packets are forward, late and refused.
+/// How many packets are forward, late and refused. The line does not jump.
 fn counts(packets: &Inputs) -> [usize; 3] {
     let mut receiver = Receiver::open(98, 100).expect("good payload types");
     let mut counts = [0; 3];
@@ -68,6 +79,7 @@ fn counts(packets: &Inputs) -> [usize; 3] {
             Answer::Forward(_) => 0,
             Answer::Late { .. } => 1,
             Answer::Refused(_) => 2,
+            Answer::Jump { .. } | Answer::Break(_) => panic!("a jump in the line"),
         };
         counts[place] += 1;
     }
@@ -91,4 +103,12 @@ pub fn steps(packets: &Inputs) {
         }),
         ("independent Rust", &|| timed(independent, packets)),
     );
+}
+
+/// Gives the packets so many times over to receivers of both programs, for
+/// whoever counts instructions. Answers how many packets a turn has.
+pub fn repeated(packets: &Inputs, times: usize) -> usize {
+    let [ours, theirs] = [proved, independent].map(|steps| passes(times, steps, packets).sum);
+    assert_eq!(ours, theirs, "the answers differ");
+    packets.count()
 }

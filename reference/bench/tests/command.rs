@@ -22,6 +22,8 @@ fn usage() {
         &["read", "ascii", "1"],
         &["read", "ascii-40", "-1"],
         &["read", "ascii-40", "1", "1"],
+        &["step", "mixed", "1"],
+        &["step", "line", "once"],
     ] {
         let output = bench(arguments).output().unwrap();
         assert_eq!(output.status.code(), Some(2), "{arguments:?}");

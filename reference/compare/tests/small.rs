@@ -68,13 +68,16 @@ fn answers_never_given_are_named() {
 fn values_of_flags_never_met_are_named() {
     let mut tally = Tally::default();
     for value in 0..=255 {
-        tally.flag(Call::Step, Answer::Done("late"), value);
+        tally.flag(Call::Step, "has_source", Answer::Done("late"), value);
         if value != 77 {
-            tally.flag(Call::Offer, Answer::Refused(7), value);
+            tally.flag(Call::Offer, "sent", Answer::Refused(7), value);
         }
     }
     let missing = tally.missing().join("\n");
     assert!(!missing.contains("receiver step, late: has_source"));
+    assert!(missing.contains("receiver step, late: has_kept was never [0, 1, 2, "));
     assert!(missing.contains("receiver step, forward: has_source was never [0, 1, 2, "));
+    assert!(missing.contains("receiver step, jump: has_source was never [1, 2, "));
+    assert!(missing.contains("receiver step, break: has_kept was never [1, 2, "));
     assert!(missing.contains("sender offer, refused: sent was never [77]"));
 }

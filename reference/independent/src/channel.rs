@@ -2,7 +2,7 @@
 //! delays and breaks its packets.
 
 use crate::random::Random;
-use crate::record::Sent;
+use crate::record::{Sent, AHEAD, BEHIND};
 use crate::sender::{Clocked, Sender, Settings};
 
 /// A call on a sender.
@@ -142,12 +142,13 @@ pub fn send(settings: Settings, calls: &[Call]) -> Line {
     line
 }
 
-/// The packets in the order in which they arrive, if they do.
+/// The packets in the order in which they arrive, if they do. One that is
+/// delayed is behind by less than its delay.
 pub fn deliveries(random: &mut Random, packets: &[Vec<u8>]) -> Vec<Delivery> {
     let loss = random.pick(&[2, 3, 5, 20, 1000]);
     let copy = random.pick(&[2, 5, 50]);
     let delay = random.pick(&[2, 5, 50]);
-    let farthest = random.pick(&[2, 5, packets.len().clamp(1, 32_767)]);
+    let farthest = random.pick(&[2, 5, packets.len().clamp(1, BEHIND + 1)]);
     let mut lost = 0;
     let mut arrivals = vec![];
     for number in 0..packets.len() {
@@ -196,9 +197,9 @@ fn deliver(random: &mut Random, number: usize, mut packet: Vec<u8>) -> Delivery 
     }
 }
 
-/// Packets heard in jumps up to the window's ends, ahead and behind.
-pub fn jumps(random: &mut Random, packets: &[Vec<u8>]) -> Vec<Delivery> {
-    let mut newest = random.below(50_000);
+/// Packets heard in strides up to the window's ends, ahead and behind.
+pub fn strides(random: &mut Random, packets: &[Vec<u8>]) -> Vec<Delivery> {
+    let mut newest = random.below(packets.len().div_ceil(3).max(1));
     let mut deliveries = vec![];
     let mut deliver = |number: usize| {
         deliveries.push(Delivery {
@@ -209,13 +210,14 @@ pub fn jumps(random: &mut Random, packets: &[Vec<u8>]) -> Vec<Delivery> {
     };
     while newest < packets.len() {
         deliver(newest);
-        let far = random.below(32_768);
-        for back in [0, 1, far, 32_766, 32_767] {
+        let back = random.below(BEHIND);
+        for back in [0, 1, back, BEHIND - 1, BEHIND] {
             if random.once_in(3) && back <= newest {
                 deliver(newest - back);
             }
         }
-        newest += random.pick(&[1, 2, 5, 6, far, 32_767, 32_768]).max(1);
+        let on = random.within(1, AHEAD);
+        newest += random.pick(&[1, 2, 5, 6, on, AHEAD - 1, AHEAD]);
     }
     deliveries
 }

@@ -5,6 +5,7 @@ use crate::receiver::MARK;
 use crate::recorder::Recorder;
 
 mod broken;
+mod jumps;
 mod whole;
 
 /// A journal and its transcript.
@@ -30,6 +31,7 @@ pub fn cases() -> Vec<Case> {
         "1 late 0 lost 0 refused 0",
     )];
     cases.extend(whole::cases());
+    cases.extend(jumps::cases());
     cases.extend(broken::cases());
     cases
 }

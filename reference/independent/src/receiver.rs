@@ -5,9 +5,6 @@ use crate::{payload_types, read, Older, Packet};
 /// A loss mark as it is written, U+FFFD.
 pub const MARK: [u8; 3] = [0xef, 0xbf, 0xbd];
 
-/// The largest distance that is still forward.
-const FARTHEST: u16 = 32_767;
-
 #[derive(Clone, Copy, Debug, PartialEq, Eq)]
 pub struct Receiver {
     t140: u8,
@@ -19,34 +16,89 @@ pub struct Receiver {
 #[derive(Clone, Copy, Debug, PartialEq, Eq)]
 struct Heard {
     source: u32,
-    /// The number after the newest one.
-    expected: u16,
+    newest: u16,
+    /// The number after the last jump's, until a forward packet or a break.
+    kept: Option<u16>,
 }
 
-/// What comes of one packet.
+impl Heard {
+    /// A receiver's knowledge when this packet is the newest.
+    #[inline]
+    fn of(packet: &Packet) -> Self {
+        Heard {
+            source: packet.source,
+            newest: packet.sequence,
+            kept: None,
+        }
+    }
+}
+
+/// What comes of one packet. Distances are measured from the next number in
+/// order.
 #[derive(Clone, Copy, Debug, PartialEq, Eq)]
 pub enum Answer<'a> {
     Refused(u8),
-    /// From -32,768 to -1; -1 is a copy of the newest.
+    /// From -100 to -1; -1 is a copy of the newest.
     Late {
         distance: i32,
     },
-    Forward(Forward<'a>),
+    /// From 2,999 to 32,767, or from -32,768 to -101.
+    Jump {
+        distance: i32,
+    },
+    /// The first accepted packet, or one at a distance from 0 to 2,998.
+    Forward(Added<'a>),
+    /// The packet after a jump: all its blocks, loss and distance 0.
+    Break(Added<'a>),
 }
 
-/// The blocks given are the last `wanted` older ones and the primary.
+impl<'a> Answer<'a> {
+    /// What the packet adds to the record, if it adds something.
+    #[inline]
+    pub fn added(&self) -> Option<&Added<'a>> {
+        match self {
+            Answer::Forward(added) | Answer::Break(added) => Some(added),
+            Answer::Refused(_) | Answer::Late { .. } | Answer::Jump { .. } => None,
+        }
+    }
+}
+
+/// What a packet adds to the record: its loss in marks, and then the blocks
+/// given, the last `wanted` older ones and the primary.
 #[derive(Clone, Copy, Debug, PartialEq, Eq)]
-pub struct Forward<'a> {
+pub struct Added<'a> {
     /// How many blocks are missing before those given.
     pub loss: u16,
-    /// From 0 to 32,767.
     pub distance: i32,
     /// How many of the older blocks are given.
     pub wanted: usize,
     pub packet: Packet<'a>,
 }
 
-impl<'a> Forward<'a> {
+impl<'a> Added<'a> {
+    /// All blocks of a packet before which nothing is missed.
+    #[inline]
+    fn whole(packet: Packet<'a>) -> Self {
+        Added {
+            loss: 0,
+            distance: 0,
+            wanted: packet.older().len(),
+            packet,
+        }
+    }
+
+    /// The blocks of a packet whose number is so far above the next in order.
+    #[inline]
+    fn ahead(distance: u16, packet: Packet<'a>) -> Self {
+        let carried = packet.older().len() as u16;
+        Added {
+            loss: distance.saturating_sub(carried),
+            distance: distance.into(),
+            wanted: distance.min(carried).into(),
+            packet,
+        }
+    }
+
     /// How many older blocks the packet holds, wanted or not.
     #[inline]
     pub fn older(&self) -> usize {
@@ -118,13 +170,19 @@ impl Receiver {
     /// The next number in order; none before the first accepted packet.
     #[inline]
     pub fn expected(&self) -> Option<u16> {
-        self.heard.map(|heard| heard.expected)
+        self.heard.map(|heard| heard.newest.wrapping_add(1))
     }
 
     /// The source of the first accepted packet.
     #[inline]
     pub fn source(&self) -> Option<u32> {
         self.heard.map(|heard| heard.source)
+    }
+
+    /// The number that makes the next jump a break.
+    #[inline]
+    pub fn kept(&self) -> Option<u16> {
+        self.heard.and_then(|heard| heard.kept)
     }
 
     /// Takes the next packet; allocates nothing.
@@ -134,28 +192,30 @@ impl Receiver {
             Ok(packet) => packet,
             Err(number) => return Answer::Refused(number),
         };
-        let carried = packet.older().len() as u16;
-        let (distance, wanted) = match self.expected() {
-            None => (0, carried),
-            Some(expected) => {
-                let distance = packet.sequence.wrapping_sub(expected);
-                if distance > FARTHEST {
-                    let distance = i32::from(distance) - 65_536;
-                    return Answer::Late { distance };
-                }
-                (distance, distance.min(carried))
-            }
+        let Some(heard) = &mut self.heard else {
+            self.heard = Some(Heard::of(&packet));
+            return Answer::Forward(Added::whole(packet));
         };
-        self.heard = Some(Heard {
-            source: packet.source,
-            expected: packet.sequence.wrapping_add(1),
-        });
-        Answer::Forward(Forward {
-            loss: distance.saturating_sub(carried),
-            distance: distance.into(),
-            wanted: wanted.into(),
-            packet,
-        })
+        // The limits of RFC 3550, appendix A.1, are measured from the newest
+        // number, the distance from the next one.
+        let ahead = packet.sequence.wrapping_sub(heard.newest);
+        let distance = ahead.wrapping_sub(1);
+        let signed = i32::from(distance as i16);
+        match ahead {
+            1..=2_999 => {
+                *heard = Heard::of(&packet);
+                Answer::Forward(Added::ahead(distance, packet))
+            }
+            0 | 65_437.. => Answer::Late { distance: signed },
+            _ if heard.kept == Some(packet.sequence) => {
+                *heard = Heard::of(&packet);
+                Answer::Break(Added::whole(packet))
+            }
+            _ => {
+                heard.kept = Some(packet.sequence.wrapping_add(1));
+                Answer::Jump { distance: signed }
+            }
+        }
     }
 }
 

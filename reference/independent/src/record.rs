@@ -24,9 +24,9 @@ pub struct Sent {
 
 /// Adds what an answer gives: its loss in marks, then its blocks.
 pub fn add(record: &mut Vec<Entry>, answer: &Answer) {
-    if let Answer::Forward(forward) = answer {
-        record.extend(repeat_n(Entry::Mark, forward.loss.into()));
-        let blocks = forward.blocks().into_iter();
+    if let Some(added) = answer.added() {
+        record.extend(repeat_n(Entry::Mark, added.loss.into()));
+        let blocks = added.blocks().into_iter();
         record.extend(blocks.map(|block| Entry::Block(block.to_vec())));
     }
 }
@@ -41,10 +41,15 @@ pub fn run(sent: &[Sent], level: usize, k: usize) -> usize {
     runs.next().unwrap_or(0)
 }
 
-/// Packet `k` is at most 32,768 ahead of the newest accepted, and at most
-/// 32,767 behind it. The first accepted needs neither.
+/// How far ahead of the newest accepted a packet may be.
+pub const AHEAD: usize = 2_999;
+/// How far behind the newest accepted a packet may be.
+pub const BEHIND: usize = 99;
+
+/// Packet `k` is neither too far ahead of the newest accepted nor too far
+/// behind it. The first accepted may be any.
 pub fn in_window(newest: Option<usize>, k: usize) -> bool {
-    newest.is_none_or(|newest| k <= newest + 32_768 && newest <= k + 32_767)
+    newest.is_none_or(|newest| k <= newest + AHEAD && newest <= k + BEHIND)
 }
 
 /// The record after the packets `accepted` of this sender, in their order:

@@ -4,7 +4,7 @@
 use std::io::{self, Read, Write};
 
 use crate::journal::{END, LIMIT, LONGEST, OPEN, PACKET, PIECE, PIECE_BODY, TIME, TIME_BODY};
-use crate::receiver::{Answer, Receiver, MARK};
+use crate::receiver::{Receiver, MARK};
 use crate::transcript::{Counts, BROKEN};
 
 const SPACE: usize = 1 << 16;
@@ -102,11 +102,11 @@ fn step(
 ) -> io::Result<()> {
     let answer = receiver.step(packet);
     counts.add(&answer);
-    if let Answer::Forward(forward) = answer {
-        for _ in 0..forward.loss {
+    if let Some(added) = answer.added() {
+        for _ in 0..added.loss {
             stream.write(&MARK)?;
         }
-        stream.write(forward.text())?;
+        stream.write(added.text())?;
     }
     Ok(())
 }

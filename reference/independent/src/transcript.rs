@@ -14,8 +14,9 @@ pub const BROKEN: &str = "\njournal broken\n";
 /// What is printed at the end of a journal that is not broken.
 #[derive(Clone, Copy, Debug, Default, PartialEq, Eq)]
 pub struct Counts {
-    /// Neither late nor refused.
+    /// Forward ones and breaks: neither late nor refused.
     pub packets: u64,
+    /// Late ones and jumps.
     pub late: u64,
     /// The loss of all packets together.
     pub lost: u64,
@@ -28,10 +29,10 @@ impl Counts {
     pub fn add(&mut self, answer: &Answer) {
         match answer {
             Answer::Refused(_) => self.refused += 1,
-            Answer::Late { .. } => self.late += 1,
-            Answer::Forward(forward) => {
+            Answer::Late { .. } | Answer::Jump { .. } => self.late += 1,
+            Answer::Forward(added) | Answer::Break(added) => {
                 self.packets += 1;
-                self.lost += u64::from(forward.loss);
+                self.lost += u64::from(added.loss);
             }
         }
     }
@@ -79,9 +80,9 @@ pub fn text(journal: &journal::Journal) -> (Vec<u8>, Counts) {
     for packet in &journal.packets {
         let answer = receiver.step(packet);
         counts.add(&answer);
-        if let Answer::Forward(forward) = answer {
-            text.extend(MARK.repeat(forward.loss.into()));
-            text.extend(forward.text());
+        if let Some(added) = answer.added() {
+            text.extend(MARK.repeat(added.loss.into()));
+            text.extend(added.text());
         }
     }
     (text, counts)

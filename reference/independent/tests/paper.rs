@@ -52,13 +52,13 @@ fn every_case_on_a_receiver() {
                 assert_eq!(Err(number), expected, "{}", case.name);
                 assert_eq!(receiver, before, "{}", case.name);
             }
-            (Answer::Late { .. }, _) => panic!("{}", case.name),
             (Answer::Forward(answer), expected) => {
                 let sequence = expected.expect(case.name).sequence;
                 let distance = before.expected().map_or(0, |next| sequence - next);
                 assert_eq!(answer.distance, i32::from(distance), "{}", case.name);
                 assert_eq!(receiver.expected(), Some(sequence + 1), "{}", case.name);
             }
+            (answer, _) => panic!("{}: {answer:?}", case.name),
         }
     }
 }

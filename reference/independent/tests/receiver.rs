@@ -1,43 +1,10 @@
 //! The receiver's line tests, its refusals and its distances.
 
+mod receiving;
+
 use independent::paper;
-use independent::receiver::{Answer, Forward, Receiver};
-
-const SOURCE: [u8; 4] = [0x11, 0x22, 0x33, 0x44];
-
-fn open() -> Receiver {
-    Receiver::open(98, 100).unwrap()
-}
-
-/// A RED packet; its offsets count down to 1.
-fn red(sequence: u16, older: &[&[u8]], primary: &[u8]) -> Vec<u8> {
-    let mut packet = vec![0x80, 0x64];
-    packet.extend(sequence.to_be_bytes());
-    packet.extend([0; 4]);
-    packet.extend(SOURCE);
-    for (block, back) in older.iter().zip((1..=older.len() as u8).rev()) {
-        packet.extend([0xe2, 0, 4 * back, block.len() as u8]);
-    }
-    packet.push(0x62);
-    packet.extend(older.concat());
-    packet.extend(primary);
-    packet
-}
-
-/// A receiver that expects this number next.
-fn expecting(number: u16) -> Receiver {
-    let mut receiver = open();
-    receiver.step(&red(number.wrapping_sub(1), &[], b""));
-    assert_eq!(receiver.expected(), Some(number));
-    receiver
-}
-
-fn forward(answer: Answer) -> Forward {
-    match answer {
-        Answer::Forward(forward) => forward,
-        answer => panic!("{answer:?}"),
-    }
-}
+use independent::receiver::{Answer, Receiver};
+use receiving::{expecting, forward, open, red};
 
 fn case(name: &str) -> Vec<u8> {
     let mut cases = paper::cases().into_iter();
@@ -112,17 +79,18 @@ fn t6() {
 fn t7() {
     let packet = red(32_773, &[], b"x");
     let mut receiver = expecting(6);
-    let answer = forward(receiver.step(&packet));
-    assert_eq!((answer.loss, answer.distance), (32_767, 32_767));
-    assert_eq!(receiver.expected(), Some(32_774));
+    assert_eq!(receiver.step(&packet), Answer::Jump { distance: 32_767 });
+    assert_eq!(receiver.expected(), Some(6));
+    assert_eq!(receiver.kept(), Some(32_774));
 }
 
 #[test]
 fn t8() {
     let packet = red(32_774, &[], b"x");
     let mut receiver = expecting(6);
-    assert_eq!(receiver.step(&packet), Answer::Late { distance: -32_768 });
+    assert_eq!(receiver.step(&packet), Answer::Jump { distance: -32_768 });
     assert_eq!(receiver.expected(), Some(6));
+    assert_eq!(receiver.kept(), Some(32_775));
 }
 
 const PLACES: [&str; 3] = ["in T140", "in a primary", "in an older block"];
@@ -216,16 +184,28 @@ fn every_distance() {
         let mut sequence = expected;
         for steps in 0..65_536 {
             for r in 0..=4 {
-                if r > 0 && steps > 8 && steps < 32_760 && steps % 97 != 0 {
+                let near = matches!(steps, 0..=8 | 2_990..=3_010 | 65_430..);
+                if r > 0 && !near && steps % 97 != 0 {
                     continue;
                 }
                 let mut receiver = start;
                 let packet = red(sequence, &older[..r], b"p");
                 let answer = receiver.step(&packet);
-                if steps >= 32_768 {
-                    let distance = steps as i32 - 65_536;
-                    assert_eq!(answer, Answer::Late { distance });
-                    assert_eq!(receiver, start);
+                if steps > 2_998 {
+                    let late = steps > 65_435;
+                    let distance = match steps {
+                        2_999..=32_767 => steps as i32,
+                        _ => steps as i32 - 65_536,
+                    };
+                    let due = match late {
+                        true => Answer::Late { distance },
+                        false => Answer::Jump { distance },
+                    };
+                    assert_eq!(answer, due);
+                    assert_eq!(receiver.source(), start.source());
+                    assert_eq!(receiver.expected(), Some(expected));
+                    let kept = (!late).then_some(sequence.wrapping_add(1));
+                    assert_eq!(receiver.kept(), kept);
                     continue;
                 }
                 let given = if steps > r { r } else { steps };
@@ -238,6 +218,7 @@ fn every_distance() {
                 assert_eq!(answer.text(), blocks.concat());
                 assert_eq!(answer.blocks(), blocks);
                 assert_eq!(receiver.expected(), Some(sequence.wrapping_add(1)));
+                assert_eq!(receiver.kept(), None);
             }
             sequence = sequence.wrapping_add(1);
         }

@@ -3,7 +3,7 @@
 use independent::channel::{self, Call, Delivery, Line, State};
 use independent::random::Random;
 use independent::receiver::{Answer, Receiver};
-use independent::record::{add, expected, in_window, run, Entry, Sent};
+use independent::record::{add, expected, in_window, run, Entry, Sent, AHEAD, BEHIND};
 use independent::sender::Settings;
 use independent::{maker, read};
 
@@ -24,6 +24,8 @@ struct Met {
     aged: usize,
     wrapped: usize,
     nothing: usize,
+    farthest_ahead: usize,
+    farthest_behind: usize,
 }
 
 impl Met {
@@ -73,10 +75,13 @@ fn receive(settings: &Settings, line: &Line, deliveries: &[Delivery], met: &mut 
                 assert_eq!(receiver, before);
                 assert_eq!(*distance as i64, k as i64 - newest.unwrap() as i64 - 1);
                 met.late += 1;
+                met.farthest_behind += usize::from(newest == Some(k + BEHIND));
             }
+            Answer::Jump { .. } | Answer::Break(_) => panic!("{answer:?} inside the window"),
             Answer::Forward(forward) => {
                 let ahead = newest.map_or(0, |newest| k - newest - 1);
                 assert_eq!(forward.distance as usize, ahead);
+                met.farthest_ahead += usize::from(newest.is_some() && ahead + 1 == AHEAD);
                 let blocks = forward.blocks();
                 assert_eq!(forward.text(), blocks.concat());
                 assert_eq!(forward.older(), run(&line.sent, level, k));
@@ -145,7 +150,7 @@ fn random_lines_of_another_makers_sender() {
 }
 
 /// A line of 150,000 packets, more than two rounds of the numbers, heard in
-/// jumps up to the window's ends. So far apart, no text is held back.
+/// strides up to the window's ends. So far apart, no text is held back.
 #[test]
 fn long_lines_to_the_ends_of_the_window() {
     for level in 0..=4 {
@@ -164,32 +169,40 @@ fn long_lines_to_the_ends_of_the_window() {
         }
         let line = channel::send(settings, &calls);
         assert_eq!(line.packets.len(), 150_000);
+        let mut met = Met::default();
         for _ in 0..20 {
-            let deliveries = channel::jumps(&mut random, &line.packets);
-            receive(&settings, &line, &deliveries, &mut Met::default());
+            let deliveries = channel::strides(&mut random, &line.packets);
+            receive(&settings, &line, &deliveries, &mut met);
         }
+        let ends = [met.farthest_ahead, met.farthest_behind, met.wrapped];
+        assert!(ends.iter().all(|&count| count > 10), "{met:?}");
     }
 }
 
 /// One past either end of the window the record is no longer promised: the
-/// receiver takes ahead for late, and late for ahead.
+/// packet is a jump, and gives nothing though it is ahead.
 #[test]
 fn past_the_ends_of_the_window() {
-    assert!(in_window(Some(40_000), 72_768) && !in_window(Some(40_000), 72_769));
-    assert!(in_window(Some(40_000), 7_233) && !in_window(Some(40_000), 7_232));
+    assert!(in_window(Some(40_000), 42_999) && !in_window(Some(40_000), 43_000));
+    assert!(in_window(Some(40_000), 39_901) && !in_window(Some(40_000), 39_900));
     let packet = |k: u16| {
         let mut packet = vec![0x80, 98];
         packet.extend(k.to_be_bytes());
         packet.extend([0; 8]);
         packet
     };
-    let mut receiver = Receiver::open(98, 100).unwrap();
-    receiver.step(&packet(40_000));
-    let ahead = (72_769_u32 % 65_536) as u16;
-    let late = Answer::Late { distance: -32_768 };
-    assert_eq!(receiver.step(&packet(ahead)), late);
-    let behind = packet(7_232);
-    assert!(matches!(receiver.step(&behind), Answer::Forward(_)));
+    let mut heard = Receiver::open(98, 100).unwrap();
+    heard.step(&packet(40_000));
+    for (k, due) in [
+        (39_901, Answer::Late { distance: -100 }),
+        (39_900, Answer::Jump { distance: -101 }),
+        (43_000, Answer::Jump { distance: 2_999 }),
+    ] {
+        let mut receiver = heard;
+        assert_eq!(receiver.step(&packet(k)), due);
+        assert_eq!(receiver.expected(), Some(40_001));
+    }
+    assert!(matches!(heard.step(&packet(42_999)), Answer::Forward(_)));
 }
 
 fn sent(blocks: &[(u64, &str)]) -> Vec<Sent> {

@@ -10,7 +10,8 @@ use independent::recorder::Recorder;
 /// one.
 pub type Draft = Vec<Vec<u8>>;
 
-/// A good journal of some of a line's packets, with times.
+/// A good journal of some of a line's packets, with times. Now and then a
+/// packet has another number, or all have from there on.
 pub fn draft(random: &mut Random, packets: usize) -> Draft {
     let level = random.below(5);
     let settings = settings(random, level);
@@ -21,9 +22,15 @@ pub fn draft(random: &mut Random, packets: usize) -> Draft {
     let mut draft = vec![];
     times(random, &mut draft);
     draft.push(vec![OPEN, settings.t140, settings.red]);
+    let mut moved: u16 = 0;
     for mut delivery in deliveries(random, &line.packets) {
         times(random, &mut draft);
-        jump(random, &mut delivery.packet);
+        let by = distance(random);
+        let stray = if random.once_in(60) { by } else { 0 };
+        if random.once_in(25) {
+            moved = moved.wrapping_add(by);
+        }
+        move_on(&mut delivery.packet, moved.wrapping_add(stray));
         delivery.packet.truncate(LONGEST);
         draft.push(packet(&delivery.packet));
     }
@@ -53,16 +60,19 @@ fn times(random: &mut Random, draft: &mut Draft) {
     }
 }
 
-/// Now and then, another sequence number, often near the half circle.
-fn jump(random: &mut Random, packet: &mut [u8]) {
-    if !random.once_in(150) {
-        return;
-    }
-    if let Some(sequence) = packet.first_chunk_mut::<4>() {
-        let now = u16::from_be_bytes([sequence[2], sequence[3]]);
-        let any = random.number() as u16;
-        let by = random.pick(&[1, 5, 32_766, 32_767, 32_768, 32_769, any]);
-        [sequence[2], sequence[3]] = now.wrapping_add(by).to_be_bytes();
+/// How far a number is moved, often to a limit of what is forward or late.
+fn distance(random: &mut Random) -> u16 {
+    let any = random.number() as u16;
+    let ahead = random.within(2_996, 3_001) as u16;
+    let behind = (65_536 - random.within(97, 103)) as u16;
+    random.pick(&[1, 5, ahead, behind, 32_767, 32_768, any, any])
+}
+
+/// Adds to a packet's number.
+fn move_on(packet: &mut [u8], by: u16) {
+    if let Some([_, _, high, low]) = packet.first_chunk_mut() {
+        let number = u16::from_be_bytes([*high, *low]);
+        [*high, *low] = number.wrapping_add(by).to_be_bytes();
     }
 }
 

@@ -77,12 +77,14 @@ fn differs(what: String, journal: &[u8]) -> Difference {
     }
 }
 
-/// The journals of the failed writes: a short one, one with text that is
-/// long, and a broken one.
+/// The journals of the failed writes: a short one, one whose text and marks
+/// are long, and a broken one.
 fn unwritable() -> [Vec<u8>; 3] {
     let packet = t140(1, &"long ".repeat(290));
-    let long = Recorder::open(98, 100).packet(&packet);
-    let long = long.packet(&t140(32_000, "and lost"));
+    let mut long = Recorder::open(98, 100).packet(&packet);
+    for sequence in (3_000..33_000).step_by(2_999) {
+        long = long.packet(&t140(sequence, "and lost"));
+    }
     [WHOLE.to_vec(), long.end(), vec![5]]
 }
 

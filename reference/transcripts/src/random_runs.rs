@@ -5,6 +5,7 @@ use std::fmt::{self, Display, Formatter};
 
 use independent::journal::{self, Break, Finish};
 use independent::random::Random;
+use independent::receiver::{Answer, Receiver};
 use independent::transcript::{text, transcript};
 use independent::{read, refusal};
 
@@ -38,10 +39,15 @@ impl Met {
         });
         let (text, counts) = text(journal);
         let broken = journal.finish != Finish::End;
+        let late = |answer: &Answer| matches!(answer, Answer::Late { .. });
+        let jump = |answer: &Answer| matches!(answer, Answer::Jump { .. });
+        let after_a_jump = |answer: &Answer| matches!(answer, Answer::Break(_));
         for (kind, met) in [
             ("broken after text", broken && !text.is_empty()),
             ("with text", counts.packets > 0),
-            ("with a late packet", counts.late > 0),
+            ("with a late packet", answered(journal, late)),
+            ("with a jump", answered(journal, jump)),
+            ("with a break", answered(journal, after_a_jump)),
             ("with a loss", counts.lost > 0),
             ("with a refused packet", counts.refused > 0),
             ("with a packet of impossible ages", impossible_ages(journal)),
@@ -59,7 +65,7 @@ impl Met {
     }
 }
 
-const KINDS: [&str; 16] = [
+const KINDS: [&str; 18] = [
     "whole",
     "broken by an early end",
     "broken by a kind",
@@ -69,6 +75,8 @@ const KINDS: [&str; 16] = [
     "broken after text",
     "with text",
     "with a late packet",
+    "with a jump",
+    "with a break",
     "with a loss",
     "with a refused packet",
     "with a packet of impossible ages",
@@ -77,6 +85,16 @@ const KINDS: [&str; 16] = [
     "fed up to the end or the break, without an end of input",
     "fed as a file",
 ];
+
+/// Whether some packet gets such an answer.
+fn answered(journal: &journal::Journal, such: fn(&Answer) -> bool) -> bool {
+    let opened = journal.opening.map(|(t140, red)| Receiver::open(t140, red));
+    let Some(Ok(mut receiver)) = opened else {
+        return false;
+    };
+    let mut packets = journal.packets.iter();
+    packets.any(|packet| such(&receiver.step(packet)))
+}
 
 fn impossible_ages(journal: &journal::Journal) -> bool {
     let Some((t140, red)) = journal.opening else {

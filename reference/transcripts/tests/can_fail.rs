@@ -32,9 +32,9 @@ fn right_program() {
 #[test]
 fn faults() {
     for (fault, found) in [
-        ("count", "stored run copy:\nexpected: "),
+        ("count", "stored run break:\nexpected: "),
         ("newline", "stored run early-after-open:"),
-        ("mark", "stored run loss-32766-and-repeat:"),
+        ("mark", "stored run jump-forward-forward:"),
         ("rare", "random journal "),
         ("holds", "text at once, expected: "),
         ("waits", "still running after 5 s"),

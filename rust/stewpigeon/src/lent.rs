@@ -21,14 +21,16 @@ impl Receiver {
         t140: 0,
         red: 0,
         has_source: 0,
+        has_kept: 0,
         source: 0,
         expected: 0,
+        kept: 0,
     };
 }
 
 impl Step {
     pub const ZERO: Step = Step {
-        late: 0,
+        course: Step::FORWARD,
         loss: 0,
         distance: 0,
         older: 0,
@@ -139,8 +141,8 @@ pub fn receiver_open(receiver: &mut impl Lend<Receiver>, t140: u8, red: u8) -> u
     unsafe { library::stewpigeon_receiver_open(receiver.place_mut(), t140, red) }
 }
 
-/// Gives a packet to a receiver: 0 and the step where it is accepted, late or
-/// not, else the refusal's number.
+/// Gives a packet to a receiver: 0 and the step where it is accepted, with
+/// whichever course, else the refusal's number.
 #[inline]
 pub fn receiver_step(
     receiver: &mut impl Lend<Receiver>,

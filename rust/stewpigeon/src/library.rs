@@ -9,17 +9,22 @@ pub struct Receiver {
     pub red: u8,
     /// 0 until a packet was accepted; any other value counts as 1.
     pub has_source: u8,
+    /// 0 where no number is kept; any other value counts as 1.
+    pub has_kept: u8,
     pub source: u32,
     /// The number after the newest one.
     pub expected: u16,
+    /// The number after the last jump's, which a break has; 0 where none is
+    /// kept.
+    pub kept: u16,
 }
 
 /// What a step answers to an accepted packet.
 #[repr(C)]
 #[derive(Clone, Copy, Debug, PartialEq, Eq)]
 pub struct Step {
-    /// 1 where the packet is late, else 0.
-    pub late: u8,
+    /// [`Step::FORWARD`], [`Step::LATE`], [`Step::JUMP`] or [`Step::BREAK`].
+    pub course: u8,
     pub loss: u16,
     pub distance: i16,
     /// The older blocks in the packet.
@@ -30,6 +35,14 @@ pub struct Step {
     pub from: usize,
     /// Where they end.
     pub to: usize,
+}
+
+/// The courses, as [`crate::Step`] explains them.
+impl Step {
+    pub const FORWARD: u8 = 0;
+    pub const LATE: u8 = 1;
+    pub const JUMP: u8 = 2;
+    pub const BREAK: u8 = 3;
 }
 
 /// What a sender is opened with.

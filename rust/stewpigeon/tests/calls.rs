@@ -116,41 +116,83 @@ fn the_answer_to_a_text() {
 fn a_guarded_record() {
     let mut receiver = Guarded::new(lent::Receiver::ZERO, || u64::MAX);
     assert_eq!(receiver.value(), lent::Receiver::ZERO);
-    // 32 bytes, the fields with what lies between them, 32 bytes and the rest
-    // of a word.
+    // 32 bytes, the fields, 32 bytes and the rest of a word.
     let mut bytes = [0xff; 80];
-    for place in [32, 33, 34, 36, 37, 38, 39, 40, 41] {
-        bytes[place] = 0;
-    }
+    bytes[32..44].fill(0);
     assert_eq!(receiver.bytes(), bytes);
     receiver.set(lent::Receiver {
-        has_source: 7,
-        expected: 0x0909,
+        has_kept: 7,
+        kept: 0x0909,
         ..lent::Receiver::ZERO
     });
-    (bytes[34], bytes[40], bytes[41]) = (7, 9, 9);
+    (bytes[35], bytes[42], bytes[43]) = (7, 9, 9);
     assert_eq!(receiver.bytes(), bytes);
     assert_eq!(receiver.around(), [&bytes[..32], &bytes[44..]]);
+}
+
+#[test]
+fn what_lies_between_guarded_fields() {
+    let mut step = Guarded::new(lent::Step::ZERO, || u64::MAX);
+    let mut bytes = [0xff; 104];
+    for fields in [32..33, 34..38, 40..72] {
+        bytes[fields].fill(0);
+    }
+    assert_eq!(step.bytes(), bytes);
+    step.set(lent::Step {
+        course: lent::Step::BREAK,
+        distance: 0x0909,
+        ..lent::Step::ZERO
+    });
+    (bytes[32], bytes[36], bytes[37]) = (3, 9, 9);
+    assert_eq!(step.bytes(), bytes);
+}
+
+/// The course of the packet, which is 5.
+fn course(receiver: &mut lent::Receiver) -> u8 {
+    let mut step = lent::Step::ZERO;
+    assert_eq!(lent::receiver_step(receiver, &PACKET, &mut step), 0);
+    step.course
 }
 
 /// 0 is false, and all else true.
 #[test]
 fn flags() {
     for flag in [0, 1, 2, 128, 255] {
-        let mut receiver = lent::Receiver {
+        let before = lent::Receiver {
             t140: 98,
             red: 100,
             has_source: flag,
+            has_kept: flag,
             source: 0x11223344,
             expected: 6,
+            kept: 5,
         };
-        let before = receiver;
-        let mut step = lent::Step::ZERO;
-        assert_eq!(lent::receiver_step(&mut receiver, &PACKET, &mut step), 0);
-        assert_eq!(step.late, u8::from(flag != 0));
+        let fresh = lent::Receiver {
+            has_source: 1,
+            has_kept: 0,
+            kept: 0,
+            ..before
+        };
+        let mut receiver = before;
         match flag {
-            0 => assert_eq!(receiver.has_source, 1),
-            _ => assert_eq!(receiver, before),
+            0 => assert_eq!((course(&mut receiver), receiver), (0, fresh)),
+            _ => assert_eq!((course(&mut receiver), receiver), (1, before)),
+        }
+        let jump = lent::Receiver {
+            has_source: 1,
+            has_kept: 1,
+            expected: 20_000,
+            kept: 6,
+            ..before
+        };
+        receiver = lent::Receiver {
+            kept: 5,
+            has_kept: flag,
+            ..jump
+        };
+        match flag {
+            0 => assert_eq!((course(&mut receiver), receiver), (2, jump)),
+            _ => assert_eq!((course(&mut receiver), receiver), (3, fresh)),
         }
     }
 }

@@ -17,7 +17,7 @@ one last line:
 Each U+FFFD (EF BF BD, shown as \u{fffd}) in the text is a mark: one block of text
 that was lost, and that no later packet repeated, is missing there. Counted are:
   packets   packets that gave their text
-  late      packets that came again or too late, and added nothing
+  late      packets that came again, late or far out of order, and added nothing
   lost      the marks
   refused   packets that were none of this line, or faulty
 

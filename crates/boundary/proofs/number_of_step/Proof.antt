@@ -18,6 +18,12 @@ enum-told c = search needs
 enum-told-2 : tie.Need-enum-told-2
 enum-told-2 c = search needs
 
+enum-told-3 : tie.Need-enum-told-3
+enum-told-3 c = search needs
+
+enum-told-4 : tie.Need-enum-told-4
+enum-told-4 c = search needs
+
 returns : tie.Need-returns
 returns c = c .number .ensures ∙ sym (ap (λ (a : Answer). stepNumber (stepAnswer a)) (c .before .before .answer .given .1))
 
@@ -27,7 +33,24 @@ returns-2 c = search needs
 returns-3 : tie.Need-returns-3
 returns-3 c = search needs
 
+returns-4 : tie.Need-returns-4
+returns-4 c = search needs
+
+returns-5 : tie.Need-returns-5
+returns-5 c = search needs
+
 pub number-of-step-spec : {M : Type 1} → statement M
 number-of-step-spec =
     tie.close
-    (tie.spec enum-known-answer number-requires enum-told enum-told-2 returns returns-2 returns-3)
+    (tie.spec
+    enum-known-answer
+    number-requires
+    enum-told
+    enum-told-2
+    enum-told-3
+    enum-told-4
+    returns
+    returns-2
+    returns-3
+    returns-4
+    returns-5)

@@ -2,10 +2,13 @@
 -- expected one. The demands do not speak of it; they rest on it.
 use Prim.Native.Nat.{ℕ, suc, _+_, _-_, _≤_, _<_}
 use mathlib.Core.Path.{_≡_}
+use mathlib.Core.Bool.{Bool, false}
 use mathlib.Core.List.{List, [], _∷_, _++_, map}
+use mathlib.Core.Option.{Option, none, some}
+use lib.Dec.{eqb}
 use lib.ListN.{length}
 use Rattle.delivery.specs.Numbers.{wrapped, next}
-use Rattle.delivery.specs.Course.{courseOf, late, forward, Course, distance, wanted, loss}
+use Rattle.delivery.specs.Course.{Course, forward, late, jump, break, courseOf, distance, wanted, loss}
 use Rattle.delivery.specs.Record.{Bytes, Entry, lastOf, entries}
 use Rattle.delivery.specs.Sending.{BlockSender, range}
 use Rattle.delivery.specs.Run.{oldestAge}
@@ -18,33 +21,49 @@ pub record Packet : Type 0 where
   pub primary : Bytes
 
 -- a receiver as far as the record goes: fresh (no packet accepted yet),
--- or with the sequence number it expects, "newest plus 1"
+-- or with the sequence number it expects, "newest plus 1", and the number that a jump kept, if there is one
 pub data BlockReceiver : Type 0 where
   fresh : BlockReceiver
-  expects : ℕ → BlockReceiver
+  expects : ℕ → Option ℕ → BlockReceiver
+
+abbrev pub isKept : Option ℕ → ℕ → Bool
+isKept none n = false
+isKept (some k) n = eqb n k
+
+-- the course of a packet to a receiver that expects e
+abbrev pub courseAt : ℕ → Option ℕ → Packet → Course
+courseAt e kept p = courseOf (distance (p .sequence) e) (isKept kept (p .sequence))
 
 -- the blocks given, where so many older ones are wanted
 abbrev pub lastBlocks : ℕ → Packet → List Bytes
 lastBlocks w p = lastOf w (p .older) ++ (p .primary ∷ [])
 
+-- the first packet "gives all its blocks, oldest first, loss 0"
+abbrev pub addsFirst : Packet → List Entry
+addsFirst p = entries 0 (lastBlocks (length (p .older)) p)
+
 -- what a packet at distance d adds, and the receiver after it, by the packet's course
 abbrev pub addsAt : Course → ℕ → Packet → List Entry
 addsAt forward d p = entries (loss d (length (p .older))) (lastBlocks (wanted d (length (p .older))) p)
 addsAt late d p = []
+addsAt jump d p = []
+addsAt break d p = addsFirst p
 
-abbrev pub receiverAfterAt : Course → ℕ → Packet → BlockReceiver
-receiverAfterAt forward e p = expects (next (p .sequence))
-receiverAfterAt late e p = expects e
+abbrev pub receiverAfterAt : Course → ℕ → Option ℕ → Packet → BlockReceiver
+receiverAfterAt forward e kept p = expects (next (p .sequence)) none
+receiverAfterAt late e kept p = expects e kept
+receiverAfterAt jump e kept p = expects e (some (next (p .sequence)))
+receiverAfterAt break e kept p = expects (next (p .sequence)) none
 
--- what an accepted packet adds to the record; the first one "gives all its blocks, oldest first, loss 0"
+-- what an accepted packet adds to the record
 abbrev pub adds : BlockReceiver → Packet → List Entry
-adds fresh p = entries 0 (lastBlocks (length (p .older)) p)
-adds (expects e) p = addsAt (courseOf (distance (p .sequence) e)) (distance (p .sequence) e) p
+adds fresh p = addsFirst p
+adds (expects e kept) p = addsAt (courseAt e kept p) (distance (p .sequence) e) p
 
 -- the receiver after an accepted packet
 abbrev pub receiverAfter : BlockReceiver → Packet → BlockReceiver
-receiverAfter fresh p = expects (next (p .sequence))
-receiverAfter (expects e) p = receiverAfterAt (courseOf (distance (p .sequence) e)) e p
+receiverAfter fresh p = expects (next (p .sequence)) none
+receiverAfter (expects e kept) p = receiverAfterAt (courseAt e kept p) e kept p
 
 -- the record of a list of accepted packets, each given to the receiver that the one before it left
 abbrev pub recordFrom : BlockReceiver → List Packet → List Entry

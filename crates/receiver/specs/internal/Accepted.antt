@@ -1,19 +1,20 @@
 -- The step of an accepted packet, over the packet as the reader hands it over.
 use Prim.Native.Nat.{ℕ, suc, _-_}
-use mathlib.Core.Bool.{true, cond}
+use mathlib.Core.Bool.{cond}
 use lib.IntN.{ℤ, pos}
 use Rattle.packet.specs.declared.Packet.{Packet}
 use Rattle.packet.specs.Places.{startOf}
 use Rattle.delivery.specs.Numbers.{next}
-use Rattle.delivery.specs.Course.{courseOf, late, forward, Course, distance, wanted, loss}
+use Rattle.delivery.specs.Course.{Course, forward, late, jump, break, courseOf, distance, wanted, loss}
 use Rattle.receiver_spec.specs.Distance.{signed}
-use Rattle.receiver_spec.specs.State.{Receiver}
-use Rattle.receiver_spec.specs.Answers.{Step, gives, isLate}
+use Rattle.receiver_spec.specs.State.{Receiver, keeping, isKept}
+use Rattle.receiver_spec.specs.Step.{movedTo}
+use Rattle.receiver_spec.specs.Answers.{Step, gives, isBreak, isJump, isLate}
 
 -- the last w older blocks and the primary are given
 abbrev pub followed : Receiver → Packet → ℕ → ℤ → ℕ → Step
 followed r k marks z w = record {
-  receiver = record { t140 = r .t140; red = r .red; hasSource = true; source = k .source; expected = next (k .sequence) };
+  receiver = movedTo r (k .source) (k .sequence);
   answer = gives (record {
     loss = marks;
     distance = z;
@@ -24,12 +25,28 @@ followed r k marks z w = record {
   });
 }
 
+-- a jump, and a break, which gives all blocks
+abbrev pub jumped : Receiver → Packet → ℤ → Step
+jumped r k z = record { receiver = keeping r (next (k .sequence)); answer = isJump z }
+
+abbrev pub broken : Receiver → Packet → Step
+broken r k = record {
+  receiver = movedTo r (k .source) (k .sequence);
+  answer = isBreak (record { loss = 0; distance = pos 0; older = k .count; given = suc (k .count); from = startOf k 0; to = k .end });
+}
+
+-- a packet that is neither forward nor late
+abbrev pub leapt : Receiver → Packet → ℤ → Step
+leapt r k z = cond (isKept r (k .sequence)) (broken r k) (jumped r k z)
+
 abbrev pub laterBy : Course → Receiver → Packet → ℕ → Step
 laterBy forward r k d = followed r k (loss d (k .count)) (signed d) (wanted d (k .count))
 laterBy late r k d = record { receiver = r; answer = isLate (signed d) }
+laterBy jump r k d = jumped r k (signed d)
+laterBy break r k d = broken r k
 
 abbrev pub laterAccepted : Receiver → Packet → ℕ → Step
-laterAccepted r k d = laterBy (courseOf d) r k d
+laterAccepted r k d = laterBy (courseOf d (isKept r (k .sequence))) r k d
 
 abbrev pub acceptedStep : Receiver → Packet → Step
 acceptedStep r k = cond (r .hasSource) (laterAccepted r k (distance (k .sequence) (r .expected))) (followed r k 0 (pos 0) (k .count))

@@ -39,7 +39,7 @@ pub fn step(
     let mut record = guarded(random, *receiver);
     let mut step = filled::<Step>(random);
     let packet = Lent::new(random, packet);
-    let before = (record.clone(), step.clone(), packet.clone());
+    let mut before = (record.clone(), step.clone(), packet.clone());
     let number = lent::receiver_step(&mut record, packet.bytes(), &mut step);
     *receiver = record.value();
     demand(
@@ -60,10 +60,21 @@ pub fn step(
         "bytes around the receiver or the step changed",
     )?;
     let step = step.value();
-    demand(
-        step.late == 0 || same_record,
-        "a late packet changed bytes of the receiver",
-    )?;
+    if step.course == Step::LATE {
+        demand(same_record, "a late packet changed bytes of the receiver")?;
+    }
+    if step.course == Step::JUMP {
+        before.0.set(Receiver {
+            has_source: receiver.has_source,
+            has_kept: receiver.has_kept,
+            kept: receiver.kept,
+            ..before.0.value()
+        });
+        demand(
+            record.bytes() == before.0.bytes(),
+            "a jump wrote more to the receiver than the number kept",
+        )?;
+    }
     Ok(Ok(step))
 }
 

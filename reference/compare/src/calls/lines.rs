@@ -9,21 +9,23 @@ use super::space::Space;
 use super::tally::{Call, Tally};
 use crate::random::Random;
 use independent::channel::{self, Delivery, Line};
-use independent::record::{expected, in_window, Entry, Sent};
+use independent::record::{expected, in_window, Entry, Sent, AHEAD, BEHIND};
 use independent::sender::Settings;
 use independent::{maker, read};
 use stewpigeon::lent::Step;
 
 /// Adds what the library's step gives: its loss in marks, then its blocks,
-/// whose places are read again.
+/// whose places are read again. Inside the window there are no jumps.
 fn add(
     record: &mut Vec<Entry>,
     settings: &Settings,
     packet: &[u8],
     step: &Step,
 ) -> Result<(), String> {
-    if step.late == 1 {
-        return Ok(());
+    match step.course {
+        Step::FORWARD => {}
+        Step::LATE => return Ok(()),
+        course => return Err(format!("course {course} inside the window")),
     }
     let read = read(None, settings.t140, settings.red, packet)
         .map_err(|number| format!("an accepted packet is refused {number}"))?;
@@ -73,6 +75,10 @@ fn receive(
             return Err(format!("packet {k} is outside the window"));
         }
         add(&mut record, settings, packet, &step)?;
+        if let Some(newest) = newest {
+            tally.meet("packets of lines 2,999 ahead", k == newest + AHEAD);
+            tally.meet("packets of lines 99 behind", k + BEHIND == newest);
+        }
         newest = newest.max(Some(k));
         accepted.push(k);
     }
@@ -161,10 +167,10 @@ const LONG: u64 = 140_000;
 /// How many ms they are apart, so that each takes the text that waits.
 const APART: u64 = 11;
 
-/// Lines of our sender that pass 65,535 several times: heard in jumps up to
+/// Lines of our sender that pass 65,535 several times: heard in strides up to
 /// the window's ends, and with losses, copies and delays all along.
 pub fn long(random: &mut Random, calls: usize, tally: &mut Tally) -> Result<(), String> {
-    let packets = LONG.min(calls as u64);
+    let packets = LONG.min(2 * calls as u64);
     for level in 0..=4 {
         let settings = Settings {
             buffering: 1,
@@ -179,7 +185,7 @@ pub fn long(random: &mut Random, calls: usize, tally: &mut Tally) -> Result<(), 
         }
         let line = send(random, &settings, &calls, Space::enough, tally)?;
         for _ in 0..10 {
-            let deliveries = channel::jumps(random, &line.packets);
+            let deliveries = channel::strides(random, &line.packets);
             receive(random, &settings, &line, &deliveries, tally)?;
         }
         let deliveries = channel::deliveries(random, &line.packets);

@@ -101,18 +101,32 @@ pub fn marks(random: &mut Random, calls: usize, tally: &mut Tally) -> Result<(),
     Ok(())
 }
 
-/// A packet for a receiver that expects this number.
-fn packet(random: &mut Random, source: u32, expected: u16) -> Vec<u8> {
+/// A number for a receiver: near the next in order, at the window's ends, far
+/// from it, or next to the last jump's.
+fn sequence(random: &mut Random, pair: &receivers::Pair) -> Option<u16> {
+    let expected = pair.expected()?;
+    if let Some(jump) = pair.jump().filter(|_| random.once_in(3)) {
+        let on = random.pick(&[0, 1, 1, 1, 2, u16::MAX]);
+        return Some(jump.wrapping_add(on));
+    }
+    let any = random.number() as u16;
+    let near = random.below(8) as u16;
+    let ahead = random.within(2_996, 3_001) as u16;
+    let behind = (65_536 - random.within(97, 104)) as u16;
+    let far = random.pick(&[32_766, 32_767, 32_768, 32_769, 65_534, 65_535]);
+    let to_65_535 = 65_535_u16.wrapping_sub(expected);
+    let distance = random.pick(&[0, 0, 0, near, near, ahead, behind, far, any, to_65_535]);
+    Some(expected.wrapping_add(distance))
+}
+
+/// A packet of this number.
+fn packet(random: &mut Random, source: u32, sequence: u16) -> Vec<u8> {
     let mut plan = match random.below(8) {
         0 => Plan::t140(random),
         1 => Plan::good(random),
         few => Plan::small_red(random, few % 5),
     };
-    let any = random.number() as u16;
-    let near = random.below(8) as u16;
-    let far = random.pick(&[32_766, 32_767, 32_768, 32_769, 65_534, 65_535]);
-    let distance = random.pick(&[0, 0, 0, near, near, any, far]);
-    plan.sequence = expected.wrapping_add(distance);
+    plan.sequence = sequence;
     plan.source = source;
     if random.once_in(20) {
         plan.source ^= 1 << random.below(32);
@@ -127,8 +141,8 @@ fn packet(random: &mut Random, source: u32, expected: u16) -> Vec<u8> {
     }
 }
 
-/// Lists of packets, good and bad, near and far, to receivers also of bad
-/// payload types.
+/// Lists of packets, good and bad, near and far, with jumps and breaks, to
+/// receivers also of bad payload types.
 pub fn packets(random: &mut Random, calls: usize, tally: &mut Tally) -> Result<(), String> {
     let start = tally.calls(Call::Step);
     while tally.calls(Call::Step) < start + calls {
@@ -141,8 +155,8 @@ pub fn packets(random: &mut Random, calls: usize, tally: &mut Tally) -> Result<(
         let source = random.number() as u32;
         let first = random.number() as u16;
         for place in 0..random.within(1, 60) {
-            let expected = pair.expected().unwrap_or(first);
-            let packet = packet(random, source, expected);
+            let sequence = sequence(random, &pair).unwrap_or(first);
+            let packet = packet(random, source, sequence);
             let answer = pair.step(random, &packet, tally);
             answer
                 .map_err(|difference| format!("packet {place} of a list: {difference}"))?

@@ -15,6 +15,7 @@ mod rules;
 mod senders;
 mod space;
 pub mod tally;
+mod trail;
 
 pub use expected::library_settings;
 

@@ -196,30 +196,38 @@ pub fn clock(sender: &mut Meaning, times: &mut Vec<u64>, clock: u64, space: &mut
 }
 
 /// A step of a receiver; without a source it is fresh, whatever else it
-/// holds.
+/// holds, and without its flag the number kept is none.
 pub fn step(receiver: &mut lent::Receiver, packet: &[u8]) -> Result<lent::Step, u8> {
     let has_source = receiver.has_source != 0;
     let source = has_source.then_some(receiver.source);
     let packet = read(source, receiver.t140, receiver.red, packet)?;
     let older = packet.older().len();
-    let mut d = usize::from(packet.sequence.wrapping_sub(receiver.expected));
-    let mut wanted = d.min(older);
-    if !has_source {
-        (d, wanted) = (0, older);
-    }
-    if d > 32_767 {
-        return Ok(lent::Step {
-            late: 1,
-            distance: (d as i32 - 65_536) as i16,
-            ..lent::Step::ZERO
-        });
-    }
-    receiver.has_source = 1;
+    let kept = receiver.has_kept != 0 && receiver.kept == packet.sequence;
+    let d = usize::from(packet.sequence.wrapping_sub(receiver.expected));
+    let next = packet.sequence.wrapping_add(1);
+    let nothing = |course| lent::Step {
+        course,
+        distance: d as i16,
+        ..lent::Step::ZERO
+    };
+    let (course, d, wanted) = match d {
+        _ if !has_source => (lent::Step::FORWARD, 0, older),
+        0..=2_998 => (lent::Step::FORWARD, d, d.min(older)),
+        65_436.. => return Ok(nothing(lent::Step::LATE)),
+        _ if kept => (lent::Step::BREAK, 0, older),
+        _ => {
+            (receiver.has_source, receiver.has_kept) = (1, 1);
+            receiver.kept = next;
+            return Ok(nothing(lent::Step::JUMP));
+        }
+    };
+    (receiver.has_source, receiver.has_kept) = (1, 0);
     receiver.source = packet.source;
-    receiver.expected = packet.sequence.wrapping_add(1);
+    receiver.expected = next;
+    receiver.kept = 0;
     let first = packet.older()[older - wanted..].first();
     Ok(lent::Step {
-        late: 0,
+        course,
         loss: d.saturating_sub(older) as u16,
         distance: d as i16,
         older,

@@ -51,7 +51,7 @@ impl Call {
     fn answers(self) -> Vec<Answer> {
         let (done, refused): (&[_], &[_]) = match self {
             Call::ReceiverOpen => (&["opened"], &[3]),
-            Call::Step => (&["forward", "late"], &refusal::ALL),
+            Call::Step => (&["forward", "late", "jump", "break"], &refusal::ALL),
             Call::WriteMarks => (&["none", "some"], &[]),
             Call::SenderOpen => (&["opened"], &[1, 2, 3, 9]),
             Call::Offer => (&["taken"], &[1, 2, 3, 4, 5, 6, 7, 9]),
@@ -63,24 +63,30 @@ impl Call {
     }
 }
 
+/// A flag in the record of a call, and the outcomes in which each of its
+/// values must be met.
+type Flag = (&'static str, &'static [&'static str]);
+
+/// The outcomes of a step.
+const STEPS: &[&str] = &["forward", "late", "jump", "break", "refused"];
+
 impl Call {
-    /// The flag in the record of this call, and the outcomes in which each of
-    /// its values must be met.
-    fn flag(self) -> Option<(&'static str, &'static [&'static str])> {
+    fn flags(self) -> &'static [Flag] {
         match self {
-            Call::Step => Some(("has_source", &["forward", "late", "refused"])),
-            Call::Offer => Some(("sent", &["taken", "refused"])),
-            Call::Clock => Some(("sent", &["sent", "quiet", "refused"])),
-            Call::ReceiverOpen | Call::WriteMarks | Call::SenderOpen => None,
+            Call::Step => &[("has_source", STEPS), ("has_kept", STEPS)],
+            Call::Offer => &[("sent", &["taken", "refused"])],
+            Call::Clock => &[("sent", &["sent", "quiet", "refused"])],
+            Call::ReceiverOpen | Call::WriteMarks | Call::SenderOpen => &[],
         }
     }
+}
 
-    /// The least value: nothing is late before a packet was accepted.
-    fn least(self, outcome: &str) -> u8 {
-        match (self, outcome) {
-            (Call::Step, "late") => 1,
-            _ => 0,
-        }
+/// The least value of a flag: the first accepted packet is forward, and there
+/// is no break without a number kept.
+fn least(flag: &str, outcome: &str) -> u8 {
+    match (flag, outcome) {
+        ("has_source", "late" | "jump" | "break") | ("has_kept", "break") => 1,
+        _ => 0,
     }
 }
 
@@ -108,7 +114,8 @@ impl Display for Answer {
 pub struct Tally {
     answers: BTreeMap<(Call, Answer), usize>,
     met: BTreeMap<Cow<'static, str>, usize>,
-    flags: BTreeMap<(Call, &'static str), BTreeSet<u8>>,
+    /// By call, flag and outcome.
+    flags: BTreeMap<(Call, &'static str, &'static str), BTreeSet<u8>>,
 }
 
 impl Tally {
@@ -121,10 +128,10 @@ impl Tally {
         *self.met.entry(what.into()).or_default() += times.into();
     }
 
-    /// A call on a record with this value in its flag was answered so.
-    pub fn flag(&mut self, call: Call, answer: Answer, value: u8) {
-        let values = self.flags.entry((call, answer.outcome())).or_default();
-        values.insert(value);
+    /// A call on a record with this value in this flag was answered so.
+    pub fn flag(&mut self, call: Call, flag: &'static str, answer: Answer, value: u8) {
+        let place = (call, flag, answer.outcome());
+        self.flags.entry(place).or_default().insert(value);
     }
 
     /// How many calls of a kind there were.
@@ -147,10 +154,7 @@ impl Tally {
         for (what, count) in &self.met {
             say!("{count:>9}  {what}");
         }
-        for ((call, outcome), values) in &self.flags {
-            let Some((flag, _)) = call.flag() else {
-                continue;
-            };
+        for ((call, flag, outcome), values) in &self.flags {
             let values = values.len();
             say!(
                 "{values:>9}  values of {flag} in any state: {}, {outcome}",
@@ -163,16 +167,15 @@ impl Tally {
     fn missing_flags(&self) -> Vec<String> {
         let mut missing = vec![];
         for call in Call::ALL {
-            let Some((flag, outcomes)) = call.flag() else {
-                continue;
-            };
-            for outcome in outcomes {
-                let met = self.flags.get(&(call, outcome));
-                let never = |value: &u8| !met.is_some_and(|met| met.contains(value));
-                let never: Vec<u8> = (call.least(outcome)..=255).filter(never).collect();
-                if !never.is_empty() {
-                    let call = call.name();
-                    missing.push(format!("{call}, {outcome}: {flag} was never {never:?}"));
+            for (flag, outcomes) in call.flags() {
+                for outcome in *outcomes {
+                    let met = self.flags.get(&(call, flag, outcome));
+                    let never = |value: &u8| !met.is_some_and(|met| met.contains(value));
+                    let never: Vec<u8> = (least(flag, outcome)..=255).filter(never).collect();
+                    if !never.is_empty() {
+                        let call = call.name();
+                        missing.push(format!("{call}, {outcome}: {flag} was never {never:?}"));
+                    }
                 }
             }
         }

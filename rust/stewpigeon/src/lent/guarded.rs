@@ -69,8 +69,8 @@ macro_rules! fields {
     };
 }
 
-fields!(Receiver: t140, red, has_source, source, expected);
-fields!(Step: late, loss, distance, older, given, from, to);
+fields!(Receiver: t140, red, has_source, has_kept, source, expected, kept);
+fields!(Step: course, loss, distance, older, given, from, to);
 fields!(Block: offset, at, len);
 fields!(Packet: marker, sequence, timestamp, source, count, older, primary, end);
 fields!(TextAnswer: is_text, characters, place);

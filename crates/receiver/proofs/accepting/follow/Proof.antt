@@ -14,13 +14,13 @@ start-of-requires c κs = search needs
 add-given : tie.Need-add-given
 add-given c = search needs
 
-next-requires : tie.Need-next-requires
-next-requires c κs = search needs
+moved-requires : tie.Need-moved-requires
+moved-requires c κs = search needs
 
 returns : tie.Need-returns
 returns c =
     let a = c .before .before .args in
-    rw (toZ-ofZ {w = w16} {z = a .distance} (c .before .before .fits .distance), add-one (a .wanted), c .next .ensures, c .before .start-of .ensures)
+    rw (toZ-ofZ {w = w16} {z = a .distance} (c .before .before .fits .distance), add-one (a .wanted), c .moved .ensures, c .before .start-of .ensures)
 
 pub follow-spec : {M : Type 1} → statement M
-follow-spec = tie.close (tie.spec sub-first start-of-requires add-given next-requires returns)
+follow-spec = tie.close (tie.spec sub-first start-of-requires add-given moved-requires returns)

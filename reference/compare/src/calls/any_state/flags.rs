@@ -17,39 +17,52 @@ fn same(answer: Answer, due: Answer) -> Result<(), String> {
     }
 }
 
-/// Steps of a receiver that has heard the packet's source or, with 0 in its
-/// flag, none.
-fn steps(random: &mut Random, has_source: u8, tally: &mut Tally) -> Result<(), String> {
+/// Steps of a receiver with these flags that has heard the packet's source
+/// or, with 0 in the first, none.
+fn steps(
+    random: &mut Random,
+    has_source: u8,
+    has_kept: u8,
+    tally: &mut Tally,
+) -> Result<(), String> {
     let count = random.below(5);
     let plan = Plan::small_red(random, count);
     let packet = plan.bytes();
-    let receiver = Receiver {
-        t140: T140,
-        red: RED,
-        has_source,
-        source: plan.source,
-        expected: plan.sequence.wrapping_sub(random.below(32_768) as u16),
-    };
-    let behind = random.within(1, 32_768) as u16;
-    let late = Receiver {
-        expected: plan.sequence.wrapping_add(behind),
-        ..receiver
-    };
-    let other_source = Receiver {
-        source: !plan.source,
-        ..receiver
-    };
     let heard = |due| match has_source {
         0 => Answer::Done("forward"),
         _ => due,
     };
-    for (receiver, packet, due) in [
-        (receiver, &packet[..], Answer::Done("forward")),
-        (late, &packet, heard(Answer::Done("late"))),
-        (receiver, &packet[..11], Answer::Refused(10)),
-        (other_source, &packet, heard(Answer::Refused(16))),
-    ] {
-        same(step_of(random, receiver, packet, tally)?, due)?;
+    let another = plan.sequence.wrapping_add(random.within(1, 65_535) as u16);
+    for kept in [another, plan.sequence] {
+        let at = |distance: usize| Receiver {
+            t140: T140,
+            red: RED,
+            has_source,
+            has_kept,
+            source: plan.source,
+            expected: plan.sequence.wrapping_sub(distance as u16),
+            kept,
+        };
+        let forward = at(random.within(0, 2_998));
+        let late = at(random.within(65_436, 65_535));
+        let jump = at(random.within(2_999, 65_435));
+        let other_source = Receiver {
+            source: !plan.source,
+            ..jump
+        };
+        let jumps = match kept == plan.sequence && has_kept != 0 {
+            true => Answer::Done("break"),
+            false => Answer::Done("jump"),
+        };
+        for (receiver, packet, due) in [
+            (forward, &packet[..], Answer::Done("forward")),
+            (late, &packet, heard(Answer::Done("late"))),
+            (jump, &packet, heard(jumps)),
+            (jump, &packet[..11], Answer::Refused(10)),
+            (other_source, &packet, heard(Answer::Refused(16))),
+        ] {
+            same(step_of(random, receiver, packet, tally)?, due)?;
+        }
     }
     Ok(())
 }
@@ -120,7 +133,10 @@ fn clock_calls(random: &mut Random, sent: u8, tally: &mut Tally) -> Result<(), S
 
 pub fn run(random: &mut Random, tally: &mut Tally) -> Result<(), String> {
     for value in 0..=255 {
-        steps(random, value, tally)
+        let heard = random.within(1, 255) as u8;
+        let kept = random.within(1, 255) as u8;
+        steps(random, value, kept, tally)
+            .and_then(|()| steps(random, heard, value, tally))
             .and_then(|()| offers(random, value, tally))
             .and_then(|()| clock_calls(random, value, tally))
             .map_err(|difference| format!("{value} in a flag: {difference}"))?;

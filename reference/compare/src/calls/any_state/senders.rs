@@ -91,7 +91,7 @@ pub fn offer_to(
     }
     let answer = offered(due);
     tally.add(Call::Offer, answer);
-    tally.flag(Call::Offer, answer, before.record.progress.sent);
+    tally.flag(Call::Offer, "sent", answer, before.record.progress.sent);
     tally.meet("offers to senders in any state taken", due == 0);
     meet(&before.record, due == 0, tally);
     Ok(answer)
@@ -179,7 +179,7 @@ pub fn clock_call_on(
     }
     let answer = clocked(due);
     tally.add(Call::Clock, answer);
-    tally.flag(Call::Clock, answer, before.record.progress.sent);
+    tally.flag(Call::Clock, "sent", answer, before.record.progress.sent);
     tally.meet("packets sent by senders in any state", due > 0);
     meet(&before.record, due > 0, tally);
     if due > 0 {

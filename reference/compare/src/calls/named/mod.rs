@@ -1,6 +1,7 @@
 //! The scope paper's line tests and other cases by name, on the library and
 //! the independent program together, with what the paper says of them.
 
+mod jumping;
 mod rates;
 mod receiving;
 mod sending;
@@ -27,8 +28,8 @@ fn same<T: PartialEq + Debug>(seen: T, said: T) -> Result<(), String> {
 }
 
 fn cases() -> impl Iterator<Item = &'static Case> {
-    let sending = sending::CASES.iter().chain(&rates::CASES);
-    receiving::CASES.iter().chain(sending)
+    let receiving = receiving::CASES.iter().chain(&jumping::CASES);
+    receiving.chain(&sending::CASES).chain(&rates::CASES)
 }
 
 /// Runs all cases.
