@@ -56,8 +56,9 @@ breakCourse = 3
 abbrev pub nothingGiven : ℕ → ℤ → Step
 nothingGiven course z = record { course = course; loss = 0; distance = z; older = 0; given = 0; from = 0; to = 0 }
 
-abbrev pub allGiven : ℕ → Given → Step
-allGiven course g = record {
+-- one that gives blocks has what it gives
+abbrev pub someGiven : ℕ → Given → Step
+someGiven course g = record {
   course = course;
   loss = g .loss;
   distance = g .distance;
@@ -72,8 +73,8 @@ abbrev pub stepRecord : StepAnswer → Step
 stepRecord (refuses n) = nothingGiven forwardCourse (pos 0)
 stepRecord (isLate z) = nothingGiven lateCourse z
 stepRecord (isJump z) = nothingGiven jumpCourse z
-stepRecord (isBreak g) = allGiven breakCourse g
-stepRecord (gives g) = allGiven forwardCourse g
+stepRecord (isBreak g) = someGiven breakCourse g
+stepRecord (gives g) = someGiven forwardCourse g
 
 -- the step's record behind a call: as it was, where the packet is refused
 abbrev pub stepBehind : StepAnswer → Step → Step

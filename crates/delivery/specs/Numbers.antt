@@ -1,4 +1,4 @@
--- Sequence numbers (RFC 3550, section 5.1), and demand 3's window.
+-- Sequence numbers (RFC 3550, section 5.1), and demand 3's window (02, request 4).
 use Prim.Native.Nat.{ℕ, _+_, _%_}
 
 -- how many sequence numbers there are

@@ -21,7 +21,7 @@ fn ahead(sequence: u16, expected: u16) -> u16
     std::num::wrapping_sub_u16(sequence, expected)
 }
 
-// The same as a signed number: below 0 where the packet is late.
+// The same as a signed number: below 0 where the packet is behind the expected one.
 fn signed(d: u16) -> i16
     ensures { λ r. ⌜ r ≡ Distance.signed d ⌝ }
 {
