@@ -6,8 +6,8 @@ use mathlib.Core.Bool.{Bool, true, false, cond}
 use Rattle.packet_spec.specs.Limits.{level}
 use Rattle.packet_spec.specs.Reading.{Read, holds, refused, reading}
 use Rattle.delivery.specs.Numbers.{next}
-use Rattle.delivery.specs.Course.{Course, forward, late, jump, break, courseOf, distance}
-use Rattle.receiver_spec.specs.State.{Receiver, keeping, isKept, sourceExpected}
+use Rattle.delivery.specs.Course.{Course, forward, late, jump, break, courseAt, distance}
+use Rattle.receiver_spec.specs.State.{Receiver, keeping, keptBy, sourceExpected}
 use Rattle.receiver_spec.specs.Step.{stepRead, firstStep, stepBy, stepOf}
 use Rattle.boundary.specs.declared.ReceiverRecord.{ReceiverRecord}
 use Rattle.boundary.specs.Receiving.{heldIn, lentRecord, receiverBehind}
@@ -37,7 +37,7 @@ held-step before p = go (reading level (sourceExpected r) (r .t140) (r .red) p)
 
     go : (x : Read) → heldIn (receiverBehind (stepRead (heldIn before) p x) before) ≡ stepRead (heldIn before) p x .receiver
     go (refused n) = refl
-    go (holds c) = by (r .hasSource) (courseOf d (isKept r (c .sequence)))
+    go (holds c) = by (r .hasSource) (courseAt (r .expected) (keptBy r) (c .sequence))
       where
         d : ℕ
         d = distance (c .sequence) (r .expected)

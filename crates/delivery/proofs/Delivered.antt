@@ -11,11 +11,11 @@ use lib.Dec.{ltb}
 use lib.ListN.{length, replicate}
 use borrow.Author.Tests.{ltb-true, ltb-false}
 use Rattle.delivery.specs.Numbers.{mostAhead, mostBehind, wrapped, next}
-use Rattle.delivery.specs.Course.{Course, distance, wanted, loss}
+use Rattle.delivery.specs.Course.{Course, distance, isKept, wanted, loss}
 use Rattle.delivery.specs.Record.{Bytes, Entry, mark, block, lastOf}
 use Rattle.delivery.specs.Sending.{BlockSender, range}
 use Rattle.delivery.specs.Claim.{newestOf, NearFrom, above, entry}
-use Rattle.delivery.specs.internal.Core.{BlockReceiver, expects, isKept, lastBlocks, addsAt, receiverAfterAt, adds, receiverAfter, recordFrom, sent, InOrder, Delivered}
+use Rattle.delivery.specs.internal.Core.{BlockReceiver, expects, lastBlocks, addsAt, receiverAfterAt, adds, receiverAfter, recordFrom, sent, InOrder, Delivered}
 use Rattle.delivery.proofs.WrappedDistance.{distance-ahead, course-ahead, course-behind}
 use Rattle.delivery.proofs.Ranges.{length-map-range, drop-range, map-range-same, map-range-const, map-range-snoc, map-range-split}
 use Rattle.delivery.proofs.Arrivals.{newest-le, above-ahead, above-behind, entry-carried, entry-lost, entry-later}

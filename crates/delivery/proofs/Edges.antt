@@ -1,19 +1,18 @@
 -- What pins the window: lists at its very edge are inside, and one step further the claim is false.
 use Prim.Native.Nat.{ℕ, suc, _+_, _-_, max}
-use mathlib.Core.Bool.{Bool, true, false}
+use mathlib.Core.Bool.{true, false}
 use mathlib.Core.List.{List, [], _∷_, _++_, map}
-use mathlib.Core.Option.{Option, none, some}
+use mathlib.Core.Option.{none, some}
 use mathlib.Core.Path.{_≡_, refl, ap, _∙_, sym}
 use native.Mathlib.Omega.{arith}
-use lib.Dec.{eqb}
 use lib.ListN.{length, length-append}
 use borrow.Author.Tests.{eq-eqb}
 use Rattle.delivery.specs.Numbers.{mostAhead, mostBehind, wrapped, next}
-use Rattle.delivery.specs.Course.{Course, jump, break, distance, courseOf}
+use Rattle.delivery.specs.Course.{Course, jump, break, distance, courseOf, isKept, courseAt}
 use Rattle.delivery.specs.Record.{Entry, block}
 use Rattle.delivery.specs.Sending.{BlockSender}
 use Rattle.delivery.specs.Claim.{Near, newestOnArrival, entry, expectedRecord}
-use Rattle.delivery.specs.internal.Core.{fresh, expects, isKept, courseAt, addsAt, receiverAfterAt, adds, recordFrom, sent, InOrder}
+use Rattle.delivery.specs.internal.Core.{fresh, expects, addsAt, receiverAfterAt, adds, recordFrom, sent, InOrder}
 use Rattle.delivery.proofs.EntryCount.{first-adds}
 use Rattle.delivery.proofs.WrappedDistance.{course-past-ahead, course-past-behind}
 use Rattle.delivery.proofs.Ranges.{length-map-range}
@@ -55,7 +54,7 @@ module _ (f : ℕ) where
   ahead-fails : (k : ℕ) → k ≡ suc mostAhead → recordFrom fresh (map (sent (alone f)) (ahead k)) ≡ expectedRecord (alone f) (ahead k) → ⊥
   ahead-fails k far claim =
       let e : ℕ = next (wrapped (f + 0)) in
-      let jumps : courseAt e none (sent (alone f) k) ≡ jump = course-past-ahead f 0 k false (omega arith) (omega arith) in
+      let jumps : courseAt e none (sent (alone f) k .sequence) ≡ jump = course-past-ahead f 0 k false (omega arith) (omega arith) in
       let nothing : adds (expects e none) (sent (alone f) k) ≡ [] =
       ap (λ (c : Course). addsAt c (distance (sent (alone f) k .sequence) e) (sent (alone f) k)) jumps in
       let recorded : length (recordFrom fresh (map (sent (alone f)) (ahead k))) ≡ 1 =
@@ -76,9 +75,9 @@ module _ (f : ℕ) where
       let m : ℕ = next (wrapped (f + 0)) in
       let p₀ = sent (alone f) 0 in
       let p₁ = sent (alone f) 1 in
-      let jumps : courseAt e none p₀ ≡ jump = course-past-behind f k 0 false (omega arith) (omega arith) in
+      let jumps : courseAt e none (p₀ .sequence) ≡ jump = course-past-behind f k 0 false (omega arith) (omega arith) in
       let kept : isKept (some m) (p₁ .sequence) ≡ true = eq-eqb (p₁ .sequence) m (omega arith) in
-      let breaks : courseAt e (some m) p₁ ≡ break =
+      let breaks : courseAt e (some m) (p₁ .sequence) ≡ break =
       ap (courseOf (distance (p₁ .sequence) e)) kept ∙ course-past-behind f k 1 true (omega arith) (omega arith) in
       let second : recordFrom (expects e none) (p₀ ∷ p₁ ∷ []) ≡ recordFrom (expects e (some m)) (p₁ ∷ []) =
       ap (λ (c : Course). addsAt c (distance (p₀ .sequence) e) p₀ ++ recordFrom (receiverAfterAt c e none p₀) (p₁ ∷ [])) jumps in

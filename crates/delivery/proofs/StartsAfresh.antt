@@ -2,10 +2,10 @@
 use Prim.Native.Nat.{ℕ}
 use mathlib.Core.Path.{_≡_, ap}
 use mathlib.Core.Option.{Option}
-use Rattle.delivery.specs.Course.{Course, break, distance}
-use Rattle.delivery.specs.internal.Core.{Packet, fresh, expects, courseAt, addsAt, receiverAfterAt, adds, receiverAfter}
+use Rattle.delivery.specs.Course.{Course, break, distance, courseAt}
+use Rattle.delivery.specs.internal.Core.{Packet, fresh, expects, addsAt, receiverAfterAt, adds, receiverAfter}
 
-module _ (e : ℕ) (kept : Option ℕ) (p : Packet) (breaks : courseAt e kept p ≡ break) where
+module _ (e : ℕ) (kept : Option ℕ) (p : Packet) (breaks : courseAt e kept (p .sequence) ≡ break) where
   pub break-adds : adds (expects e kept) p ≡ adds fresh p
   break-adds = ap (λ (c : Course). addsAt c (distance (p .sequence) e) p) breaks
 

@@ -1,7 +1,8 @@
 -- How far ahead of the expected number a packet is, what that makes of it, and what it then adds (01, "The receiver's step"; 02,
 -- request 4).
 use Prim.Native.Nat.{ℕ, _+_, _-_, min}
-use mathlib.Core.Bool.{Bool, cond}
+use mathlib.Core.Bool.{Bool, false, cond}
+use mathlib.Core.Option.{Option, none, some}
 use lib.Dec.{leb, ltb, eqb}
 use Rattle.delivery.specs.Numbers.{circle, wrapped, next}
 
@@ -35,6 +36,15 @@ courseFrom n kept = cond (eqb n 0) late (cond (ltb n maxDropout) forward (cond (
 -- the course at distance d: the one place where it is decided
 abbrev pub courseOf : ℕ → Bool → Course
 courseOf d kept = courseFrom (fromNewest d) kept
+
+-- whether a number is the one kept
+abbrev pub isKept : Option ℕ → ℕ → Bool
+isKept none n = false
+isKept (some k) n = eqb n k
+
+-- the course of a packet with this number, to a receiver that expects e and keeps a number or none
+abbrev pub courseAt : ℕ → Option ℕ → ℕ → Course
+courseAt e kept sequence = courseOf (distance sequence e) (isKept kept sequence)
 
 -- "loss is d minus r, or 0 if r is larger", at distance d with r older blocks
 abbrev pub loss : ℕ → ℕ → ℕ

@@ -7,12 +7,12 @@ use Rattle.base.specs.Every.{Every}
 use Rattle.packet_spec.specs.Limits.{level}
 use Rattle.packet_spec.specs.Reading.{Content, Read, holds}
 use Rattle.packet_spec.specs.Encoding.{Admits}
-use Rattle.delivery.specs.Course.{Course, forward, late, jump, break, courseOf, distance}
+use Rattle.delivery.specs.Course.{Course, forward, late, jump, break, courseAt, distance}
 use Rattle.delivery.specs.Record.{Entry, block}
 use Rattle.delivery.specs.Run.{Rules, senderOf}
 use Rattle.delivery.specs.internal.Core as core
 use Rattle.delivery.specs.internal.Core.{sent}
-use Rattle.receiver_spec.specs.State.{freshReceiver, Receiver, isKept, readBy, sourceExpected}
+use Rattle.receiver_spec.specs.State.{freshReceiver, Receiver, keptBy, readBy, sourceExpected}
 use Rattle.receiver_spec.specs.Step.{firstStep, stepBy, stepRead, stepOf}
 use Rattle.receiver_spec.specs.Record.{entriesOf}
 use Rattle.sender_spec.specs.State.{Settings, SentBlock, Sender, freshSender}
@@ -45,7 +45,7 @@ all-from x (c ∷ cs) s e = go (senderAfter ours s c) (writes ours s c) (move s 
 -- behind a packet from this source a receiver still admits it
 admits-on : (r : Receiver) (p : List ℕ) (c : Content) (source : ℕ) → c .source ≡ source → Admits (sourceExpected r) source
     → Admits (sourceExpected (stepRead r p (holds c) .receiver)) source
-admits-on r p c source e a = go (r .hasSource) (courseOf (distance (c .sequence) (r .expected)) (isKept r (c .sequence)))
+admits-on r p c source e a = go (r .hasSource) (courseAt (r .expected) (keptBy r) (c .sequence))
   where
     go : (h : Bool) (v : Course) → Admits (sourceExpected (cond h (stepBy v r p c (distance (c .sequence) (r .expected))) (firstStep r p c) .receiver)) source
     go true forward = sym e

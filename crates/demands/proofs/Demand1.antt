@@ -21,7 +21,7 @@ use Rattle.sender_spec.specs.Answers.{CallResult, ClockResult}
 use Rattle.sender_spec.specs.Settings.{settingsChecks, settingsNumber}
 use Rattle.sender_spec.specs.Calls as sender
 use Rattle.sender_spec.specs.Offering.{offerChecks, senderWith}
-use Rattle.sender_spec.specs.Calls.{offerOf, offerRefused, clockOf, senderAt, clockRefused}
+use Rattle.sender_spec.specs.Calls.{offerOf, offerRefused, clockOf, clockRefused}
 use Rattle.sender_spec.specs.Clocking.{clockChecks}
 use Rattle.demands.specs.Ours.{ours}
 use Rattle.demands.specs.Demand1.{OnlyClock, Demand1}

@@ -6,29 +6,31 @@ use mathlib.Core.List.{List, [], _∷_}
 use mathlib.Core.Bool.{Bool, true, false, cond}
 use native.Mathlib.Omega.{arith}
 use lib.Dec.{ltb}
+use lib.IntN.{negsuc}
 use lib.ListN.{length}
 use Rattle.base.specs.Flags.{bit}
 use Rattle.packet_spec.specs.Redundancy.{headers}
 use Rattle.packet_spec.specs.Reading.{Content, Read, holds, refused, reading}
 use Rattle.delivery.specs.Record.{Entry}
-use Rattle.delivery.specs.Course.{Course, forward, late, jump, break, distance, courseOf}
-use Rattle.receiver_spec.specs.State.{Receiver, isKept, keeping, readBy}
-use Rattle.receiver_spec.specs.Answers.{Step, refuses}
+use Rattle.delivery.specs.Course.{Course, forward, late, jump, break, distance, courseOf, isKept}
+use Rattle.receiver_spec.specs.State.{Receiver, keptBy, keeping, readBy}
+use Rattle.receiver_spec.specs.Answers.{Step, refuses, isLate}
 use Rattle.receiver_spec.specs.Kinds.{wasLate}
 use Rattle.receiver_spec.specs.Step.{firstStep, stepBy, stepOf}
+use Rattle.receiver_spec.specs.Record.{entriesOf}
 use Rattle.receiver_spec.proofs.CourseTests.{newest, packet}
-use Rattle.demands.specs.Courses.{Meets, Courses}
+use Rattle.demands.specs.Courses.{HasCourse, Courses}
 use Rattle.demands.proofs.ImpostorReceivers.{withStep}
 
 -- the step with another judgement of distance and number
-abbrev stepRead : (ℕ → Bool → Course) → Receiver → List ℕ → Read → Step
-stepRead judge r p (refused n) = record { receiver = r; answer = refuses n }
-stepRead judge r p (holds c) =
+abbrev judgedRead : (ℕ → Bool → Course) → Receiver → List ℕ → Read → Step
+judgedRead judge r p (refused n) = record { receiver = r; answer = refuses n }
+judgedRead judge r p (holds c) =
     let d = distance (c .sequence) (r .expected) in
-    cond (r .hasSource) (stepBy (judge d (isKept r (c .sequence))) r p c d) (firstStep r p c)
+    cond (r .hasSource) (stepBy (judge d (isKept (keptBy r) (c .sequence))) r p c d) (firstStep r p c)
 
 abbrev judging : (ℕ → Bool → Course) → Receiver → List ℕ → Step
-judging judge r p = stepRead judge r p (readBy r p)
+judging judge r p = judgedRead judge r p (readBy r p)
 
 -- what is read of `packet n`
 abbrev contentOf : ℕ → Content
@@ -49,19 +51,19 @@ trusting = judging (λ d kept. courseOf d true)
 pub trusting-fails : Courses (withStep trusting) → ⊥
 unfolding reading headers
 trusting-fails c =
-    let m : Meets (newest 5) (packet 10000) jump = record { content = contentOf 10000; read = refl; sourced = refl; course-is = refl } in
+    let m : HasCourse (newest 5) (packet 10000) jump = record { content = contentOf 10000; read = refl; sourced = refl; course-is = refl } in
     let z : _≡_ {A = ℕ} 1 0 = ap (λ (l : List Entry). length l) (c .jump-keeps (newest 5) (packet 10000) m .0) in
     omega arith
 
 -- trusts none: a sender that began anew is never heard again
-abbrev deaf : Receiver → List ℕ → Step
-deaf = judging (λ d kept. courseOf d false)
+abbrev stubborn : Receiver → List ℕ → Step
+stubborn = judging (λ d kept. courseOf d false)
 
-pub deaf-fails : Courses (withStep deaf) → ⊥
+pub stubborn-fails : Courses (withStep stubborn) → ⊥
 unfolding reading headers
-deaf-fails c =
+stubborn-fails c =
     let r = keeping (newest 5) 10000 in
-    let m : Meets r (packet 10000) break = record { content = contentOf 10000; read = refl; sourced = refl; course-is = refl } in
+    let m : HasCourse r (packet 10000) break = record { content = contentOf 10000; read = refl; sourced = refl; course-is = refl } in
     let z : _≡_ {A = ℕ} 6 10001 = ap (λ (x : Receiver). x .expected) (c .break-afresh r (packet 10000) m .1) in
     omega arith
 
@@ -73,7 +75,7 @@ pub forgetful-fails : Courses (withStep forgetful) → ⊥
 unfolding stepOf reading headers
 forgetful-fails c =
     let r = keeping (newest 5) 10001 in
-    let m : Meets r (packet 5) late = record { content = contentOf 5; read = refl; sourced = refl; course-is = refl } in
+    let m : HasCourse r (packet 5) late = record { content = contentOf 5; read = refl; sourced = refl; course-is = refl } in
     let z : _≡_ {A = ℕ} 0 10001 = ap (λ (x : Receiver). x .kept) (c .late-stays r (packet 5) m .1) in
     omega arith
 
@@ -85,6 +87,18 @@ pub hoarding-fails : Courses (withStep hoarding) → ⊥
 unfolding stepOf reading headers
 hoarding-fails c =
     let r = keeping (newest 5) 10001 in
-    let m : Meets r (packet 6) forward = record { content = contentOf 6; read = refl; sourced = refl; course-is = refl } in
-    let z : _≡_ {A = ℕ} 1 0 = ap bit (c .forward-clears r (packet 6) m) in
+    let m : HasCourse r (packet 6) forward = record { content = contentOf 6; read = refl; sourced = refl; course-is = refl } in
+    let z : _≡_ {A = ℕ} 1 0 = ap bit (c .forward-clears r (packet 6) m .1) in
+    omega arith
+
+-- a stray packet costs the next one its text
+abbrev startled : Receiver → List ℕ → Step
+startled r p = cond (r .hasKept) (record { receiver = stepOf r p .receiver; answer = isLate (negsuc 0) }) (stepOf r p)
+
+pub startled-fails : Courses (withStep startled) → ⊥
+unfolding stepOf reading headers
+startled-fails c =
+    let r = keeping (newest 5) 10001 in
+    let m : HasCourse r (packet 6) forward = record { content = contentOf 6; read = refl; sourced = refl; course-is = refl } in
+    let z : _≡_ {A = ℕ} 0 1 = ap (λ (s : Step). length (entriesOf r (packet 6) (s .answer))) (c .forward-clears r (packet 6) m .0) in
     omega arith

@@ -14,5 +14,5 @@ pub mod LineTests
 pub mod ImpostorReceivers
 pub mod ImpostorSenders
 pub mod ImpostorRates
-pub mod Printed
 pub mod ImpostorCourses
+pub mod Printed

@@ -1,5 +1,5 @@
--- 01's line tests T1 to T12 (T7 and T8 by 02's request 4), as one table: each row a call, made on a receiver or a sender, and all that comes of it. Where a
--- test goes on, its next row's call is made on what the row before left. T140 is 98, RED 100.
+-- 01's line tests T1 to T12 (T7 and T8 by 02's request 4), as one table: each row a call, made on a receiver or a sender, and
+-- all that comes of it. Where a test goes on, its next row's call is made on what the row before left. T140 is 98, RED 100.
 use Prim.Native.Nat.{ℕ}
 use mathlib.Core.Path.{_≡_}
 use mathlib.Core.List.{List, [], _∷_, _++_}

@@ -1,7 +1,7 @@
 -- What is due behind an answer and behind a line, and when nothing is.
 use Prim.Native.Nat.{ℕ, _-_, _<_, _≤_}
 use mathlib.Core.Path.{_≡_, _∙_, refl, ap, sym}
-use mathlib.Core.List.{List, [], _++_}
+use mathlib.Core.List.{List, []}
 use mathlib.Core.Bool.{Bool, true, false, _&&_}
 use native.Mathlib.Omega.{arith}
 use borrow.Author.Tests.{leb-true, leb-false, le-leb, eq-eqb, ne-eqb}
@@ -9,7 +9,7 @@ use lib.Dec.{leb, eqb}
 use lib.IntN.{ℤ}
 use lib.ListN.{length, take, drop, length-append}
 use lib.Seq.{take-take, take-at, length-take-le}
-use Rattle.base.specs.Arrays.{part, over}
+use Rattle.base.specs.Arrays.{over}
 use Rattle.base.proofs.Tests.{both}
 use Rattle.base.proofs.Fronts.{drop-take}
 use Rattle.base.proofs.PartOf.{part-mid}

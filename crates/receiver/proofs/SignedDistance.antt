@@ -11,7 +11,7 @@ use mir.Val.{toZ, SFits}
 use mir.Facts.{toZ-pos}
 use borrow.Author.Tests.{lt-ltb, le-ltb, ltb-true, ltb-false}
 use Rattle.delivery.specs.Numbers.{circle}
-use Rattle.delivery.specs.Course.{forward, late, jump, break, courseOf}
+use Rattle.delivery.specs.Course.{Course, forward, late, jump, break, courseOf}
 use Rattle.delivery.proofs.WrappedDistance.{course-forward, course-far, course-late}
 use Rattle.receiver_spec.specs.Distance.{half, signed}
 
@@ -31,34 +31,23 @@ module _ (d : ℕ) where
   pub large-fits : half ≤ d → d < circle → SFits w16 (negsuc 0 -ℤ toZ w16 (circle - 1 - d))
   large-fits h k = rw (large-signed h k, le-ltb d half h) (record { sfits = omega arith })
 
--- the course, where the code branches
-module _ (d : ℕ) (kept : Bool) (fits : d < circle) where
-  pub far-behind : ltZ (signed d) (negsuc 99) ≡ true → courseOf d kept ≡ cond kept break jump
-  far-behind = go (ltb d half) refl
-    where
-      go : (b : Bool) → ltb d half ≡ b → ltZ (cond b (pos d) (negsuc (circle - 1 - d))) (negsuc 99) ≡ true → courseOf d kept ≡ cond kept break jump
-      go true e h = absurd (let z : _≡_ {A = ℕ} 0 1 = cc in omega arith)
-      go false e h = course-far d kept (omega (arith, ltb-false d half e)) (omega (arith, ltb-true 99 (circle - 1 - d) h))
+-- the course by the signed distance, as the code branches on it
+abbrev pub bySigned : ℤ → Bool → Course
+bySigned z kept =
+    let far = cond kept break jump in
+    cond (ltZ z (pos 0)) (cond (ltZ z (negsuc 99)) far late) (cond (ltZ (pos 2998) z) far forward)
 
-  pub behind-late : ltZ (signed d) (negsuc 99) ≡ false → ltZ (signed d) (pos 0) ≡ true → courseOf d kept ≡ late
-  behind-late = go (ltb d half) refl
-    where
-      go : (b : Bool) → ltb d half ≡ b → ltZ (cond b (pos d) (negsuc (circle - 1 - d))) (negsuc 99) ≡ false
-          → ltZ (cond b (pos d) (negsuc (circle - 1 - d))) (pos 0) ≡ true → courseOf d kept ≡ late
-      go true e h k = absurd (omega (arith, ltb-true d 0 k))
-      go false e h k = course-late d kept (omega (arith, ltb-false 99 (circle - 1 - d) h)) fits
+pub course-by-signed : (d : ℕ) (kept : Bool) → d < circle → courseOf d kept ≡ bySigned (signed d) kept
+course-by-signed d kept fits = go (ltb d half) refl
+  where
+    ahead : (b : Bool) → ltb 2998 d ≡ b → d < half → courseOf d kept ≡ cond b (cond kept break jump) forward
+    ahead true e h = course-far d kept (omega (arith, ltb-true 2998 d e)) (omega arith)
+    ahead false e h = course-forward d kept (omega (arith, ltb-false 2998 d e))
 
-  pub far-ahead : ltZ (pos 2998) (signed d) ≡ true → courseOf d kept ≡ cond kept break jump
-  far-ahead = go (ltb d half) refl
-    where
-      go : (b : Bool) → ltb d half ≡ b → ltZ (pos 2998) (cond b (pos d) (negsuc (circle - 1 - d))) ≡ true → courseOf d kept ≡ cond kept break jump
-      go true e h = course-far d kept (omega (arith, ltb-true 2998 d h)) (omega (arith, ltb-true d half e))
-      go false e h = absurd (let z : _≡_ {A = ℕ} 0 1 = cc in omega arith)
+    behind : (b : Bool) → ltb 99 (circle - 1 - d) ≡ b → half ≤ d → courseOf d kept ≡ cond b (cond kept break jump) late
+    behind true e h = course-far d kept (omega arith) (omega (arith, ltb-true 99 (circle - 1 - d) e))
+    behind false e h = course-late d kept (omega (arith, ltb-false 99 (circle - 1 - d) e)) fits
 
-  pub ahead-forward : ltZ (signed d) (pos 0) ≡ false → ltZ (pos 2998) (signed d) ≡ false → courseOf d kept ≡ forward
-  ahead-forward = go (ltb d half) refl
-    where
-      go : (b : Bool) → ltb d half ≡ b → ltZ (cond b (pos d) (negsuc (circle - 1 - d))) (pos 0) ≡ false
-          → ltZ (pos 2998) (cond b (pos d) (negsuc (circle - 1 - d))) ≡ false → courseOf d kept ≡ forward
-      go true e h k = course-forward d kept (omega (arith, ltb-false 2998 d k))
-      go false e h k = absurd (let z : _≡_ {A = ℕ} 0 1 = cc in omega arith)
+    go : (b : Bool) → ltb d half ≡ b → courseOf d kept ≡ bySigned (cond b (pos d) (negsuc (circle - 1 - d))) kept
+    go true e = rw (le-ltb d 0 (omega arith)) (ahead (ltb 2998 d) refl (ltb-true d half e))
+    go false e = behind (ltb 99 (circle - 1 - d)) refl (ltb-false d half e)

@@ -16,12 +16,12 @@ use Rattle.packet_spec.specs.Redundancy.{joined}
 use Rattle.packet_spec.specs.Reading.{Content, holds, reading, blocks, startsAt}
 use Rattle.packet.specs.Refusal.{number}
 use Rattle.packet.specs.Places.{numbered, placed, startOf, readOf}
-use Rattle.delivery.specs.Course.{Course, forward, late, jump, break, courseOf, distance, wanted, loss}
+use Rattle.delivery.specs.Course.{Course, forward, late, jump, break, distance, courseOf, isKept, courseAt, wanted, loss}
 use Rattle.delivery.specs.Record.{lastOf}
-use Rattle.receiver_spec.specs.State.{Receiver, isKept, sourceExpected}
+use Rattle.receiver_spec.specs.State.{Receiver, keptBy, sourceExpected}
 use Rattle.receiver_spec.specs.Distance.{signed}
 use Rattle.receiver_spec.specs.Step.{movedTo, givenFrom, allOf, stepRead, firstStep, stepBy, stepOf}
-use Rattle.receiver_spec.specs.Answers.{Step, gives, isBreak, refuses}
+use Rattle.receiver_spec.specs.Answers.{gives, isBreak, refuses}
 use Rattle.receiver.specs.internal.Accepted.{followed, jumped, broken, leapt, laterBy, laterAccepted, acceptedStep}
 use Rattle.packet_spec.proofs.RefusalNumbers.{reading-positive}
 use Rattle.packet_spec.proofs.BlockRuns.{reach, joined-split}
@@ -37,8 +37,8 @@ module _ (r : Receiver) (k : Packet) where
   first-step e = sym (ap (λ (h : Bool). cond h (laterAccepted r k (distance (k .sequence) (r .expected))) (followed r k 0 (pos 0) (k .count))) e)
 
   -- far from the expected number: a break or a jump
-  pub leapt-step : (d : ℕ) → courseOf d (isKept r (k .sequence)) ≡ cond (isKept r (k .sequence)) break jump → leapt r k (signed d) ≡ laterAccepted r k d
-  leapt-step d v = go (isKept r (k .sequence)) ∙ sym (ap (λ (c : Course). laterBy c r k d) v)
+  pub leapt-step : (d : ℕ) → courseOf d (isKept (keptBy r) (k .sequence)) ≡ cond (isKept (keptBy r) (k .sequence)) break jump → leapt r k (signed d) ≡ laterAccepted r k d
+  leapt-step d v = go (isKept (keptBy r) (k .sequence)) ∙ sym (ap (λ (c : Course). laterBy c r k d) v)
     where
       go : (b : Bool) → cond b (broken r k) (jumped r k (signed d)) ≡ laterBy (cond b break jump) r k d
       go true = refl
@@ -69,7 +69,7 @@ module _ (r : Receiver) (p : List ℕ) (c : Content) (l : Lies p c) where
       (ap (startOf (placed level p c)) (sym none) ∙ starts n (omega arith))
 
   same-step : acceptedStep r (placed level p c) ≡ stepRead r p (holds c)
-  same-step = by (r .hasSource) (courseOf d (isKept r (c .sequence)))
+  same-step = by (r .hasSource) (courseAt (r .expected) (keptBy r) (c .sequence))
     where
       d : ℕ
       d = distance (c .sequence) (r .expected)

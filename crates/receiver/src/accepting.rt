@@ -5,7 +5,7 @@ ghost use Rattle.packet_spec.specs.Limits.{level};
 ghost use Rattle.delivery.specs.Course as Course;
 ghost use Rattle.delivery.specs.Numbers as Numbers;
 ghost use Rattle.receiver_spec.specs.Distance as Distance;
-ghost use Rattle.receiver_spec.specs.State.{isKept};
+ghost use Rattle.receiver_spec.specs.State.{keptBy};
 ghost use Rattle.receiver_spec.specs.Step.{movedTo};
 ghost use Rattle.receiver.specs.internal.Accepted.{followed, leapt, laterAccepted, acceptedStep};
 ghost use Rattle.receiver.specs.View.{receiverOf, advanced};
@@ -98,7 +98,7 @@ fn follow(receiver: Receiver, packet: Packet, loss: u16, distance: i16, wanted: 
 }
 
 fn is_kept(receiver: Receiver, sequence: u16) -> bool
-    ensures { λ r. ⌜ r ≡ isKept (receiverOf receiver) sequence ⌝ }
+    ensures { λ r. ⌜ r ≡ Course.isKept (keptBy (receiverOf receiver)) sequence ⌝ }
 {
     if receiver.has_kept {
         return sequence == receiver.kept;

@@ -2,23 +2,22 @@
 use Prim.Native.Nat.{ℕ, suc, _≤_}
 use mathlib.Core.Path.{_≡_, _∙_, refl, ap, ap₂, sym}
 use mathlib.Core.List.{List, [], _∷_, _++_, map, nil≢cons, cons≢nil, head-eq-of-cons-eq, tail-eq-of-cons-eq}
-use mathlib.Core.Bool.{Bool, true, false, cond, _&&_}
-use mathlib.Core.Option.{Option, none, some}
+use mathlib.Core.Bool.{Bool, true, false, cond}
+use mathlib.Core.Option.{Option}
 use native.Mathlib.Omega.{arith}
-use lib.Dec.{eqb}
 use lib.ListN.{length, length-map}
 use Rattle.packet_spec.specs.Header.{Any}
-use Rattle.receiver_spec.specs.State.{Receiver, isKept, readBy}
+use Rattle.receiver_spec.specs.State.{Receiver, keptBy, readBy}
 use Rattle.packet_spec.specs.Limits.{level}
 use Rattle.packet_spec.specs.Redundancy.{blocksOf}
 use Rattle.packet_spec.specs.Reading.{Content, Read, holds, refused, reading}
-use Rattle.delivery.specs.Course.{Course, forward, late, jump, break, courseOf, distance, wanted, loss}
+use Rattle.delivery.specs.Course.{Course, forward, late, jump, break, courseAt, distance, wanted, loss}
 use Rattle.delivery.specs.internal.Core as core
 use Rattle.delivery.specs.Record.{Entry, entries, lastOf}
 use Rattle.delivery.specs.Sending.{BlockSender}
 use Rattle.delivery.specs.internal.Core.{sent}
 use Rattle.receiver_spec.specs.Step.{stepRead, firstStep, stepBy, stepOf}
-use Rattle.receiver_spec.specs.Record.{blocksIn, blocksGiven, entriesOf, recordOf, acceptedOf}
+use Rattle.receiver_spec.specs.Record.{blocksIn, entriesOf, recordOf, acceptedOf}
 use Rattle.receiver_spec.specs.Answers.{isAccepted}
 use Rattle.receiver_spec.proofs.AcceptedBlocks.{last-snoc, read-by-any}
 
@@ -34,9 +33,6 @@ packetsRead (holds c) = packetOf c ∷ []
 abbrev packets : Receiver → List (List ℕ) → List core.Packet
 packets r [] = []
 packets r (p ∷ ps) = packetsRead (readBy r p) ++ packets (stepOf r p .receiver) ps
-
-abbrev keptBy : Receiver → Option ℕ
-keptBy r = cond (r .hasKept) (some (r .kept)) none
 
 abbrev pub state : Receiver → core.BlockReceiver
 state r = cond (r .hasSource) (core.expects (r .expected) (keptBy r)) core.fresh
@@ -76,18 +72,13 @@ module _ (r : Receiver) (p : List ℕ) (c : Content) (e : readBy r p ≡ holds c
   after-is true break d = refl
   after-is false v d = refl
 
--- the course, by the receiver and by its state
-course-is : (h : Bool) (k n d : ℕ) → courseOf d (h && eqb n k) ≡ courseOf d (core.isKept (cond h (some k) none) n)
-course-is true k n d = refl
-course-is false k n d = refl
-
 adds-state : (h : Bool) (x : ℕ) (kept : Option ℕ) (k : core.Packet)
-    → cond h (core.addsAt (core.courseAt x kept k) (distance (k .sequence) x) k) (core.adds core.fresh k) ≡ core.adds (cond h (core.expects x kept) core.fresh) k
+    → cond h (core.addsAt (courseAt x kept (k .sequence)) (distance (k .sequence) x) k) (core.adds core.fresh k) ≡ core.adds (cond h (core.expects x kept) core.fresh) k
 adds-state true x kept k = refl
 adds-state false x kept k = refl
 
 after-state : (h : Bool) (x : ℕ) (kept : Option ℕ) (k : core.Packet)
-    → cond h (core.receiverAfterAt (core.courseAt x kept k) x kept k) (core.receiverAfter core.fresh k) ≡ core.receiverAfter (cond h (core.expects x kept) core.fresh) k
+    → cond h (core.receiverAfterAt (courseAt x kept (k .sequence)) x kept k) (core.receiverAfter core.fresh k) ≡ core.receiverAfter (cond h (core.expects x kept) core.fresh) k
 after-state true x kept k = refl
 after-state false x kept k = refl
 
@@ -95,20 +86,13 @@ module _ (r : Receiver) (p : List ℕ) (c : Content) (e : readBy r p ≡ holds c
   abbrev d : ℕ
   d = distance (c .sequence) (r .expected)
 
-  same-course : courseOf d (isKept r (c .sequence)) ≡ core.courseAt (r .expected) (keptBy r) (packetOf c)
-  same-course = course-is (r .hasKept) (r .kept) (c .sequence) d
-
   pub step-adds : entriesOf r p (stepRead r p (holds c) .answer) ≡ core.adds (state r) (packetOf c)
   step-adds =
-      adds-is r p c e (r .hasSource) (courseOf d (isKept r (c .sequence))) d
-      ∙ ap (λ (v : Course). cond (r .hasSource) (core.addsAt v d (packetOf c)) (core.adds core.fresh (packetOf c))) same-course
-      ∙ adds-state (r .hasSource) (r .expected) (keptBy r) (packetOf c)
+      adds-is r p c e (r .hasSource) (courseAt (r .expected) (keptBy r) (c .sequence)) d ∙ adds-state (r .hasSource) (r .expected) (keptBy r) (packetOf c)
 
   pub step-after : state (stepRead r p (holds c) .receiver) ≡ core.receiverAfter (state r) (packetOf c)
   step-after =
-      after-is r p c e (r .hasSource) (courseOf d (isKept r (c .sequence))) d
-      ∙ ap (λ (v : Course). cond (r .hasSource) (core.receiverAfterAt v (r .expected) (keptBy r) (packetOf c)) (core.receiverAfter core.fresh (packetOf c))) same-course
-      ∙ after-state (r .hasSource) (r .expected) (keptBy r) (packetOf c)
+      after-is r p c e (r .hasSource) (courseAt (r .expected) (keptBy r) (c .sequence)) d ∙ after-state (r .hasSource) (r .expected) (keptBy r) (packetOf c)
 
 one-step : (r : Receiver) (p : List ℕ) (rest : List core.Packet) (x : Read) → readBy r p ≡ x
     → entriesOf r p (stepRead r p x .answer) ++ core.recordFrom (state (stepRead r p x .receiver)) rest ≡ core.recordFrom (state r) (packetsRead x ++ rest)
@@ -127,7 +111,7 @@ same-record (p ∷ ps) r =
 -- what a step keeps, and whether it accepts
 pub keeps-types : (r : Receiver) (p : List ℕ) (x : Read) → (stepRead r p x .receiver .t140 ≡ r .t140) × (stepRead r p x .receiver .red ≡ r .red)
 keeps-types r p (refused n) = (refl, refl)
-keeps-types r p (holds c) = by (r .hasSource) (courseOf d (isKept r (c .sequence)))
+keeps-types r p (holds c) = by (r .hasSource) (courseAt (r .expected) (keptBy r) (c .sequence))
   where
     d : ℕ
     d = distance (c .sequence) (r .expected)
@@ -141,7 +125,7 @@ keeps-types r p (holds c) = by (r .hasSource) (courseOf d (isKept r (c .sequence
     by false v = (refl, refl)
 
 pub accepts : (r : Receiver) (p : List ℕ) (c : Content) → isAccepted (stepRead r p (holds c) .answer) ≡ true
-accepts r p c = by (r .hasSource) (courseOf d (isKept r (c .sequence)))
+accepts r p c = by (r .hasSource) (courseAt (r .expected) (keptBy r) (c .sequence))
   where
     d : ℕ
     d = distance (c .sequence) (r .expected)

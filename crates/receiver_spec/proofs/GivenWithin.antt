@@ -9,8 +9,8 @@ use lib.ListN.{length}
 use Rattle.packet_spec.specs.Limits.{level}
 use Rattle.packet_spec.specs.Reading.{Content, Read, holds, refused}
 use Rattle.packet_spec.proofs.BlocksLie.{lies}
-use Rattle.delivery.specs.Course.{Course, forward, late, jump, break, courseOf, distance, wanted, loss}
-use Rattle.receiver_spec.specs.State.{Receiver, isKept, readBy, sourceExpected}
+use Rattle.delivery.specs.Course.{Course, forward, late, jump, break, courseAt, distance, wanted, loss}
+use Rattle.receiver_spec.specs.State.{Receiver, keptBy, readBy, sourceExpected}
 use Rattle.receiver_spec.specs.Distance.{signed}
 use Rattle.receiver_spec.specs.Step.{givenFrom, stepRead, firstStep, stepBy, stepOf}
 use Rattle.receiver_spec.specs.Answers.{gives, isBreak, isJump, isLate, refuses, StepAnswer}
@@ -32,7 +32,7 @@ given-lies r p = go (readBy r p) refl
   where
     go : (x : Read) → readBy r p ≡ x → Within p (stepRead r p x .answer)
     go (refused n) e = tt
-    go (holds c) e = by (r .hasSource) (courseOf d (isKept r (c .sequence)))
+    go (holds c) e = by (r .hasSource) (courseAt (r .expected) (keptBy r) (c .sequence))
       where
         d : ℕ
         d = distance (c .sequence) (r .expected)

@@ -1,13 +1,13 @@
 -- A break leaves what a fresh receiver with the same payload types would, and gives the same.
 use Prim.Native.Nat.{ℕ}
-use mathlib.Core.Path.{_≡_, _∙_, refl, ap, sym}
+use mathlib.Core.Path.{_≡_, _∙_, refl, ap}
 use mathlib.Core.List.{List}
 use mathlib.Core.Bool.{Bool, true, false, cond}
 use native.Mathlib.Omega.{arith}
-use Rattle.packet_spec.specs.Reading.{Content, Read, holds, refused}
-use Rattle.delivery.specs.Course.{Course, forward, late, jump, break, courseOf, distance}
-use Rattle.receiver_spec.specs.State.{Receiver, freshReceiver, isKept, readBy}
-use Rattle.receiver_spec.specs.Answers.{Given, Step, gives, isBreak}
+use Rattle.packet_spec.specs.Reading.{Read, holds, refused}
+use Rattle.delivery.specs.Course.{Course, forward, late, jump, break, courseAt, distance}
+use Rattle.receiver_spec.specs.State.{Receiver, freshReceiver, keptBy, readBy}
+use Rattle.receiver_spec.specs.Answers.{Given, gives, isBreak}
 use Rattle.receiver_spec.specs.Step.{movedTo, allOf, stepRead, firstStep, stepBy, stepOf}
 use Rattle.receiver_spec.proofs.AcceptedBlocks.{read-by-any}
 
@@ -22,7 +22,7 @@ module _ (r : Receiver) (p : List ℕ) (g : Given) where
       go : (x : Read) → readBy r p ≡ x → stepRead r p x .answer ≡ isBreak g
           → stepRead fresh p (readBy fresh p) ≡ record { receiver = stepRead r p x .receiver; answer = gives g }
       go (refused n) e b = absurd (let z : _≡_ {A = ℕ} 0 1 = cc in omega arith)
-      go (holds c) e b = ap (stepRead fresh p) (read-by-any r p c e) ∙ by (r .hasSource) (courseOf d (isKept r (c .sequence))) b
+      go (holds c) e b = ap (stepRead fresh p) (read-by-any r p c e) ∙ by (r .hasSource) (courseAt (r .expected) (keptBy r) (c .sequence)) b
         where
           d : ℕ
           d = distance (c .sequence) (r .expected)

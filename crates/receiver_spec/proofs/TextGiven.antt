@@ -6,12 +6,12 @@ use mathlib.Core.Bool.{Bool, true, false, cond}
 use native.Mathlib.Omega.{arith}
 use lib.IntN.{ℤ, pos}
 use lib.ListN.{length}
-use Rattle.receiver_spec.specs.State.{Receiver, isKept, readBy, sourceExpected}
+use Rattle.receiver_spec.specs.State.{Receiver, keptBy, readBy, sourceExpected}
 use Rattle.packet_spec.specs.Limits.{level}
 use Rattle.packet_spec.specs.Header.{payloadEnd}
 use Rattle.packet_spec.specs.Redundancy.{joined}
 use Rattle.packet_spec.specs.Reading.{Content, Read, holds, refused, blocks}
-use Rattle.delivery.specs.Course.{Course, forward, late, jump, break, courseOf, distance, wanted, loss}
+use Rattle.delivery.specs.Course.{Course, forward, late, jump, break, courseAt, distance, wanted, loss}
 use Rattle.delivery.specs.Record.{lastOf}
 use Rattle.receiver_spec.specs.Step.{givenFrom, stepRead, firstStep, stepBy, stepOf, textGiven}
 use Rattle.receiver_spec.specs.Answers.{gives}
@@ -38,7 +38,7 @@ text-is-blocks r p = go (readBy r p) refl
     go : (x : Read) → readBy r p ≡ x
         → textGiven p (stepRead r p x .answer) ≡ joined (blocksGiven r p (stepRead r p x .answer))
     go (refused n) e = refl
-    go (holds c) e = by (r .hasSource) (courseOf d (isKept r (c .sequence)))
+    go (holds c) e = by (r .hasSource) (courseAt (r .expected) (keptBy r) (c .sequence))
       where
         d : ℕ
         d = distance (c .sequence) (r .expected)

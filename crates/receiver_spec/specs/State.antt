@@ -1,8 +1,8 @@
 -- A receiver, the checks of its opening, and how it reads a packet.
 use Prim.Native.Nat.{ℕ}
 use mathlib.Core.List.{List, [], _∷_}
-use mathlib.Core.Bool.{Bool, true, false, cond, _&&_}
-use lib.Dec.{eqb}
+use mathlib.Core.Bool.{Bool, true, false, cond}
+use mathlib.Core.Option.{Option, none, some}
 use Rattle.base.specs.Checks.{Check, _gives_}
 use Rattle.packet_spec.specs.Limits.{level}
 use Rattle.packet_spec.specs.Header.{Expected, Any, Only, typesBad}
@@ -33,21 +33,27 @@ openingChecks t140 red = typesBad t140 red gives 3 ∷ []
 abbrev pub sourceExpected : Receiver → Expected
 sourceExpected r = cond (r .hasSource) (Only (r .source)) Any
 
--- whether a sequence number is the one kept
-abbrev pub isKept : Receiver → ℕ → Bool
-isKept r n = r .hasKept && eqb n (r .kept)
+-- the number kept, if one is
+abbrev pub keptBy : Receiver → Option ℕ
+keptBy r = cond (r .hasKept) (some (r .kept)) none
 
--- the receiver, with this number kept
-abbrev pub keeping : Receiver → ℕ → Receiver
-keeping r n = record {
+-- the receiver with this number kept, and with none
+abbrev pub withKept : Receiver → Bool → ℕ → Receiver
+withKept r has n = record {
   t140 = r .t140;
   red = r .red;
   hasSource = r .hasSource;
   source = r .source;
   expected = r .expected;
-  hasKept = true;
+  hasKept = has;
   kept = n;
 }
+
+abbrev pub keeping : Receiver → ℕ → Receiver
+keeping r n = withKept r true n
+
+abbrev pub keepingNone : Receiver → Receiver
+keepingNone r = withKept r false 0
 
 -- a packet as the step reads it: 3 on the types held, 10 to 15, 16, 17 to 20, 22, 21
 abbrev pub readBy : Receiver → List ℕ → Read

@@ -10,9 +10,9 @@ use Rattle.packet_spec.specs.Redundancy.{joined}
 use Rattle.packet_spec.specs.Reading.{Content, Read, holds, refused, blocks}
 use Rattle.delivery.specs.Numbers.{next}
 use Rattle.delivery.specs.Record.{lastOf}
-use Rattle.delivery.specs.Course.{distance, Course, forward, late, jump, break, courseOf, loss, wanted}
+use Rattle.delivery.specs.Course.{distance, Course, forward, late, jump, break, courseAt, loss, wanted}
 use Rattle.receiver_spec.specs.Distance.{signed}
-use Rattle.receiver_spec.specs.State.{Receiver, isKept, keeping, readBy}
+use Rattle.receiver_spec.specs.State.{Receiver, keptBy, keeping, readBy}
 use Rattle.receiver_spec.specs.Answers.{Given, StepAnswer, refuses, isLate, isJump, isBreak, gives, Step}
 
 -- a packet of this source and number that gives its text fixes the source, the next number is expected, and none is kept
@@ -61,7 +61,7 @@ abbrev pub stepRead : Receiver → List ℕ → Read → Step
 stepRead r p (refused n) = record { receiver = r; answer = refuses n }
 stepRead r p (holds c) =
     let d = distance (c .sequence) (r .expected) in
-    cond (r .hasSource) (stepBy (courseOf d (isKept r (c .sequence))) r p c d) (firstStep r p c)
+    cond (r .hasSource) (stepBy (courseAt (r .expected) (keptBy r) (c .sequence)) r p c d) (firstStep r p c)
 
 unfoldable pub stepOf : Receiver → List ℕ → Step
 stepOf r p = stepRead r p (readBy r p)

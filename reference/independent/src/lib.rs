@@ -9,6 +9,7 @@ pub mod journal;
 pub mod journals;
 pub mod maker;
 pub mod offsets;
+pub mod packets;
 pub mod paper;
 pub mod random;
 pub mod receiver;

@@ -2,13 +2,11 @@
 -- expected one. The demands do not speak of it; they rest on it.
 use Prim.Native.Nat.{ℕ, suc, _+_, _-_, _≤_, _<_}
 use mathlib.Core.Path.{_≡_}
-use mathlib.Core.Bool.{Bool, false}
 use mathlib.Core.List.{List, [], _∷_, _++_, map}
 use mathlib.Core.Option.{Option, none, some}
-use lib.Dec.{eqb}
 use lib.ListN.{length}
 use Rattle.delivery.specs.Numbers.{wrapped, next}
-use Rattle.delivery.specs.Course.{Course, forward, late, jump, break, courseOf, distance, wanted, loss}
+use Rattle.delivery.specs.Course.{Course, forward, late, jump, break, distance, courseAt, wanted, loss}
 use Rattle.delivery.specs.Record.{Bytes, Entry, lastOf, entries}
 use Rattle.delivery.specs.Sending.{BlockSender, range}
 use Rattle.delivery.specs.Run.{oldestAge}
@@ -25,14 +23,6 @@ pub record Packet : Type 0 where
 pub data BlockReceiver : Type 0 where
   fresh : BlockReceiver
   expects : ℕ → Option ℕ → BlockReceiver
-
-abbrev pub isKept : Option ℕ → ℕ → Bool
-isKept none n = false
-isKept (some k) n = eqb n k
-
--- the course of a packet to a receiver that expects e
-abbrev pub courseAt : ℕ → Option ℕ → Packet → Course
-courseAt e kept p = courseOf (distance (p .sequence) e) (isKept kept (p .sequence))
 
 -- the blocks given, where so many older ones are wanted
 abbrev pub lastBlocks : ℕ → Packet → List Bytes
@@ -58,12 +48,12 @@ receiverAfterAt break e kept p = expects (next (p .sequence)) none
 -- what an accepted packet adds to the record
 abbrev pub adds : BlockReceiver → Packet → List Entry
 adds fresh p = addsFirst p
-adds (expects e kept) p = addsAt (courseAt e kept p) (distance (p .sequence) e) p
+adds (expects e kept) p = addsAt (courseAt e kept (p .sequence)) (distance (p .sequence) e) p
 
 -- the receiver after an accepted packet
 abbrev pub receiverAfter : BlockReceiver → Packet → BlockReceiver
 receiverAfter fresh p = expects (next (p .sequence)) none
-receiverAfter (expects e kept) p = receiverAfterAt (courseAt e kept p) e kept p
+receiverAfter (expects e kept) p = receiverAfterAt (courseAt e kept (p .sequence)) e kept p
 
 -- the record of a list of accepted packets, each given to the receiver that the one before it left
 abbrev pub recordFrom : BlockReceiver → List Packet → List Entry

@@ -5,9 +5,9 @@ use lib.IntN.{ℤ, pos}
 use Rattle.packet.specs.declared.Packet.{Packet}
 use Rattle.packet.specs.Places.{startOf}
 use Rattle.delivery.specs.Numbers.{next}
-use Rattle.delivery.specs.Course.{Course, forward, late, jump, break, courseOf, distance, wanted, loss}
+use Rattle.delivery.specs.Course.{Course, forward, late, jump, break, distance, courseOf, isKept, wanted, loss}
 use Rattle.receiver_spec.specs.Distance.{signed}
-use Rattle.receiver_spec.specs.State.{Receiver, keeping, isKept}
+use Rattle.receiver_spec.specs.State.{Receiver, keptBy, keeping}
 use Rattle.receiver_spec.specs.Step.{movedTo}
 use Rattle.receiver_spec.specs.Answers.{Step, gives, isBreak, isJump, isLate}
 
@@ -37,7 +37,7 @@ broken r k = record {
 
 -- a packet that is neither forward nor late
 abbrev pub leapt : Receiver → Packet → ℤ → Step
-leapt r k z = cond (isKept r (k .sequence)) (broken r k) (jumped r k z)
+leapt r k z = cond (isKept (keptBy r) (k .sequence)) (broken r k) (jumped r k z)
 
 abbrev pub laterBy : Course → Receiver → Packet → ℕ → Step
 laterBy forward r k d = followed r k (loss d (k .count)) (signed d) (wanted d (k .count))
@@ -46,7 +46,7 @@ laterBy jump r k d = jumped r k (signed d)
 laterBy break r k d = broken r k
 
 abbrev pub laterAccepted : Receiver → Packet → ℕ → Step
-laterAccepted r k d = laterBy (courseOf d (isKept r (k .sequence))) r k d
+laterAccepted r k d = laterBy (courseOf d (isKept (keptBy r) (k .sequence))) r k d
 
 abbrev pub acceptedStep : Receiver → Packet → Step
 acceptedStep r k = cond (r .hasSource) (laterAccepted r k (distance (k .sequence) (r .expected))) (followed r k 0 (pos 0) (k .count))

@@ -5,7 +5,8 @@ use native.Mathlib.Numerals.{add-one}
 use mir.Syntax.{w16}
 use mir.Facts.{toZ-ofZ}
 use borrow.Author.Needs.{needs}
-use Rattle.receiver_spec.specs.State.{isKept, keeping}
+use Rattle.delivery.specs.Course.{isKept}
+use Rattle.receiver_spec.specs.State.{keptBy, keeping}
 use Rattle.receiver_spec.specs.Answers.{isJump}
 use Rattle.receiver.specs.View.{receiverOf}
 use Rattle.receiver.proofs.accepting.leap.Statement.{statement}
@@ -27,7 +28,7 @@ returns : tie.Need-returns
 returns c =
     let q = c .before .before in
     let a = q .before .before .args in
-    let k : isKept (receiverOf (a .receiver)) (a .packet .sequence) ≡ true = sym (q .before .is-kept .ensures) ∙ q .if1 .taken in
+    let k : isKept (keptBy (receiverOf (a .receiver))) (a .packet .sequence) ≡ true = sym (q .before .is-kept .ensures) ∙ q .if1 .taken in
     rw (k, add-one (a .packet .count), c .moved .ensures, c .before .start-of .ensures)
 
 next-requires : tie.Need-next-requires
@@ -37,7 +38,7 @@ returns-2 : tie.Need-returns-2
 returns-2 c =
     let q = c .before in
     let a = q .before .before .args in
-    let k : isKept (receiverOf (a .receiver)) (a .packet .sequence) ≡ false = sym (q .before .is-kept .ensures) ∙ q .if1 .left in
+    let k : isKept (keptBy (receiverOf (a .receiver))) (a .packet .sequence) ≡ false = sym (q .before .is-kept .ensures) ∙ q .if1 .left in
     rw (k, toZ-ofZ {w = w16} {z = a .distance} (q .before .before .fits .distance)) (ap (λ (n : ℕ). record { receiver = keeping (receiverOf (a .receiver)) n; answer = isJump (a .distance) }) (c .next .ensures))
 
 pub leap-spec : {M : Type 1} → statement M

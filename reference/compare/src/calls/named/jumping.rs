@@ -1,8 +1,9 @@
 //! Named cases of jumps and breaks.
 
 use super::super::receivers::Pair;
-use super::receiving::{expecting, open, red, step};
+use super::receiving::{expecting, open, step};
 use super::{same, Case, Given};
+use independent::packets::red;
 use stewpigeon::lent::Step;
 use Seen::{Break, Forward, Jump, Late, Refused};
 

@@ -3,6 +3,7 @@
 use super::super::receivers::{Pair, Stepped};
 use super::{same, Case, Given};
 use crate::captures;
+use independent::packets::red;
 use independent::{paper, read};
 use stewpigeon::lent::{self, Step};
 
@@ -38,20 +39,6 @@ pub fn step(given: &mut Given<'_>, pair: &mut Pair, packet: &[u8]) -> Result<Ste
 fn fresh(given: &mut Given<'_>, packet: &[u8]) -> Result<Stepped, String> {
     let mut pair = open(given)?;
     step(given, &mut pair, packet)
-}
-
-/// A RED packet; its offsets count down to 1.
-pub fn red(sequence: u16, older: &[&[u8]], primary: &[u8]) -> Vec<u8> {
-    let mut packet = vec![0x80, 0x64];
-    packet.extend(sequence.to_be_bytes());
-    packet.extend([0, 0, 0, 0, 0x11, 0x22, 0x33, 0x44]);
-    for (block, back) in older.iter().zip((1..=older.len() as u8).rev()) {
-        packet.extend([0xe2, 0, 4 * back, block.len() as u8]);
-    }
-    packet.push(0x62);
-    packet.extend(older.concat());
-    packet.extend(primary);
-    packet
 }
 
 /// A receiver that expects this number next.
