@@ -10,6 +10,14 @@ _Static_assert(sizeof(struct stewpigeon_receiver) == STEWPIGEON_RECEIVER_SIZE, "
 _Static_assert(offsetof(struct stewpigeon_receiver, has_kept) == 3, "the second flag");
 _Static_assert(offsetof(struct stewpigeon_receiver, kept) == 10, "the number kept");
 _Static_assert(sizeof(struct stewpigeon_step) == STEWPIGEON_STEP_SIZE, "step");
+_Static_assert(sizeof(struct stewpigeon_holding_receiver) == STEWPIGEON_HOLDING_RECEIVER_SIZE, "holding receiver");
+_Static_assert(offsetof(struct stewpigeon_holding_receiver, has_held) == 12, "whether one is held");
+_Static_assert(offsetof(struct stewpigeon_holding_receiver, held) == 14, "the number held");
+_Static_assert(offsetof(struct stewpigeon_holding_receiver, arrival) == 16, "its arrival");
+_Static_assert(offsetof(struct stewpigeon_holding_receiver, clock) == 24, "the clock");
+_Static_assert(sizeof(struct stewpigeon_holding_step) == STEWPIGEON_HOLDING_STEP_SIZE, "holding step");
+_Static_assert(offsetof(struct stewpigeon_holding_step, again) == 2, "whether to give it again");
+_Static_assert(offsetof(struct stewpigeon_holding_step, step) == 8, "the step in it");
 _Static_assert(sizeof(struct stewpigeon_sender_record) == STEWPIGEON_SENDER_RECORD_SIZE, "sender's record");
 _Static_assert(sizeof(struct stewpigeon_sender) == STEWPIGEON_SENDER_SIZE, "sender");
 _Static_assert(sizeof(struct stewpigeon_block) == 24, "older block");
@@ -39,6 +47,7 @@ int main(void)
         layout_of_the_sender();
         layout_of_the_rate();
         layout_of_the_receiver();
+        layout_of_the_holding_receiver();
         layout_of_the_reader();
         marks();
     }

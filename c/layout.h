@@ -39,6 +39,8 @@ static inline bool are(const uint8_t *bytes, size_t count, uint8_t value)
 
 GUARDED(guarded_receiver, struct stewpigeon_receiver);
 GUARDED(guarded_step, struct stewpigeon_step);
+GUARDED(guarded_holding_receiver, struct stewpigeon_holding_receiver);
+GUARDED(guarded_holding_step, struct stewpigeon_holding_step);
 GUARDED(guarded_record, struct stewpigeon_sender_record);
 GUARDED(guarded_sender, struct stewpigeon_sender);
 GUARDED(guarded_packet, struct stewpigeon_packet);
@@ -72,6 +74,7 @@ struct guarded_log {
 void layout_of_the_sender(void);
 void layout_of_the_rate(void);
 void layout_of_the_receiver(void);
+void layout_of_the_holding_receiver(void);
 void layout_of_the_reader(void);
 
 #endif

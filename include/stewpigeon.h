@@ -18,7 +18,7 @@
 
 /* The version: all else that names it is made from this, or held to it. */
 #define STEWPIGEON_VERSION_MAJOR 0
-#define STEWPIGEON_VERSION_MINOR 4
+#define STEWPIGEON_VERSION_MINOR 5
 #define STEWPIGEON_VERSION_PATCH 0
 
 #ifdef __cplusplus
@@ -32,7 +32,7 @@ enum stewpigeon_refusal {
     STEWPIGEON_REFUSED_BUFFERING = 2,      /* buffering time 0 or above 500 ms */
     STEWPIGEON_REFUSED_PAYLOAD_TYPES = 3,  /* payload types outside 96 to 127, or equal */
     STEWPIGEON_REFUSED_WAITING_ROOM = 4,   /* the text does not fit in the waiting room */
-    STEWPIGEON_REFUSED_CLOCK = 5,          /* the clock is below the latest accepted one */
+    STEWPIGEON_REFUSED_CLOCK = 5,          /* a sender's or holding receiver's clock is below the latest accepted one */
     STEWPIGEON_REFUSED_TEXT = 6,           /* the text is not UTF-8 */
     STEWPIGEON_REFUSED_NO_TEXT = 7,        /* the text is empty */
     STEWPIGEON_REFUSED_SPACE = 8,          /* the space is shorter than the packet that is due */
@@ -49,7 +49,8 @@ enum stewpigeon_refusal {
     STEWPIGEON_REFUSED_BLOCK_TYPE = 19,    /* a block's type is not T140 */
     STEWPIGEON_REFUSED_BLOCK_LENGTHS = 20, /* the older blocks' lengths pass the end */
     STEWPIGEON_REFUSED_BLOCK_TEXT = 21,    /* a block is not UTF-8 */
-    STEWPIGEON_REFUSED_BLOCK_AGES = 22     /* the older blocks' time offsets do not fall to 1 or more */
+    STEWPIGEON_REFUSED_BLOCK_AGES = 22,    /* the older blocks' time offsets do not fall to 1 or more */
+    STEWPIGEON_REFUSED_HELD_PACKET = 27    /* the packet lent as held is refused or has another number */
 };
 
 #define STEWPIGEON_LEVELS 4         /* the highest number of repeats */
@@ -60,6 +61,7 @@ enum stewpigeon_refusal {
 #define STEWPIGEON_SHORTEST 12      /* the shortest packet that is read */
 #define STEWPIGEON_LONGEST 1472     /* and the longest; no packet that is written is longer */
 #define STEWPIGEON_MARK 3           /* the bytes of a loss mark, EF BF BD */
+#define STEWPIGEON_HOLDING_MS 1000  /* how long a packet is held at most */
 
 /* A receiver. */
 struct stewpigeon_receiver {
@@ -94,6 +96,34 @@ struct stewpigeon_step {
 };
 
 #define STEWPIGEON_STEP_SIZE 40
+
+/* A receiver that holds: where blocks before a packet are missing, the packet waits for those that are late. */
+struct stewpigeon_holding_receiver {
+    struct stewpigeon_receiver receiver; /* of the packets handed out, by the newest of which numbers are judged */
+    uint8_t has_held;                    /* a flag: 0 where no packet is held; any other value counts as 1 */
+    uint16_t held;                       /* the number of the packet held; 0 where none is */
+    uint64_t arrival;                    /* the clock at which it arrived; 0 where none is held */
+    uint64_t clock;                      /* the latest accepted one, 0 at first */
+};
+
+#define STEWPIGEON_HOLDING_RECEIVER_SIZE 32
+
+/* Which of the two packets that a holding receiver is lent. */
+enum stewpigeon_which {
+    STEWPIGEON_NEITHER = 0,
+    STEWPIGEON_HELD = 1, /* the one lent as held */
+    STEWPIGEON_NEW = 2   /* the one that arrived */
+};
+
+/* What a holding receiver says in an accepted call. */
+struct stewpigeon_holding_step {
+    uint8_t of;    /* of enum stewpigeon_which: the packet that the text is part of; neither: none is given */
+    uint8_t keep;  /* of enum stewpigeon_which: the packet to keep, and to lend as held with the next call */
+    uint8_t again; /* 1 where the same packet is to be given again, else 0 */
+    struct stewpigeon_step step; /* of the packet given; none given: the new one's course and distance, all else 0 */
+};
+
+#define STEWPIGEON_HOLDING_STEP_SIZE 48
 
 /* What a sender was opened with. */
 struct stewpigeon_settings {
@@ -170,6 +200,39 @@ uint8_t stewpigeon_receiver_open(struct stewpigeon_receiver *receiver, uint8_t t
  */
 uint8_t stewpigeon_receiver_step(struct stewpigeon_receiver *receiver, const uint8_t *packet, size_t packet_len,
                                  struct stewpigeon_step *step);
+
+/* Opens a holding receiver. Answers 0; or 3, and then the receiver is all zeros. */
+uint8_t stewpigeon_holding_receiver_open(struct stewpigeon_holding_receiver *receiver, uint8_t t140, uint8_t red);
+
+/*
+ * Gives a packet to a holding receiver, at a clock in ms that never goes back. With it the packet held is lent, whose
+ * bytes the caller owns; where none is held, any bytes do, and are not looked at. Answers 0 where both are accepted,
+ * and writes receiver and step. Else answers the refusal's number, and then both stay, the clock too, and the held
+ * packet is still to be kept. 3 comes first, then 5, then 27, then the packet's own 10 to 22.
+ *
+ * A call gives at most one text, of one packet, by how far that one is from `expected`. The first packet is given. A
+ * forward packet that would cause no loss is given, any other is held. Where one is held already, the nearer of the two
+ * is given, with its loss, and the other one is kept, each with its own arrival. Late packets and jumps give nothing;
+ * one with the held one's number is late, with a distance of 0 or more. A break is given where none is held; else the
+ * held one is given, and `again` asks for the same packet. Forward packets clear the kept number when they arrive;
+ * handing out the held one leaves it.
+ *
+ * So for each packet: give it; record `step.loss` marks and the bytes from `step.from` to `step.to` of the packet that
+ * `of` names; then keep a copy of the packet, if `keep` names the new one; and give the same packet again while `again`
+ * is said. Then call stewpigeon_holding_receiver_wait at the same clock until nothing is given. Call it too when the
+ * held packet's STEWPIGEON_HOLDING_MS are over, also behind the last packet: what is still held is not in the record.
+ */
+uint8_t stewpigeon_holding_receiver_step(struct stewpigeon_holding_receiver *receiver, uint64_t clock,
+                                         const uint8_t *held, size_t held_len, const uint8_t *packet,
+                                         size_t packet_len, struct stewpigeon_holding_step *step);
+
+/*
+ * Tells a holding receiver the clock, without a packet. The held one is given if it causes no loss any more, or if
+ * STEWPIGEON_HOLDING_MS have passed since its arrival; else nothing is, and course and distance are 0. Answers as the
+ * step does: 0, 3, 5 or 27.
+ */
+uint8_t stewpigeon_holding_receiver_wait(struct stewpigeon_holding_receiver *receiver, uint64_t clock,
+                                         const uint8_t *held, size_t held_len, struct stewpigeon_holding_step *step);
 
 /*
  * Fills the space from its start with whole loss marks, the smaller of `count` and a third of the space. Answers how

@@ -186,7 +186,7 @@ impl Step {
     pub const BREAK: u8 = 3;
 }
 
-fn nothing_given(course: u8, distance: i16) -> Step
+pub fn nothing_given(course: u8, distance: i16) -> Step
     ensures { λ r. ⌜ r ≡ nothingGiven course distance ⌝ }
 {
     Step {

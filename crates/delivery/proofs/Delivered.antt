@@ -53,7 +53,7 @@ module _ (S : BlockSender) (ordered : InOrder S) where
       map-range-same (λ j. block (S .block j)) (entry S (k ∷ ks)) a m (λ j l u. sym (entry-carried S k j ks (omega arith) (omega arith)))
 
   -- a receiver for which block n is the newest, with any number kept
-  abbrev at : ℕ → Option ℕ → BlockReceiver
+  abbrev pub at : ℕ → Option ℕ → BlockReceiver
   at n kept = expects (next (wrapped (S .first + n))) kept
 
   module _ (n k : ℕ) (kept : Option ℕ) where
@@ -75,7 +75,7 @@ module _ (S : BlockSender) (ordered : InOrder S) where
         ∙ joined lost (given k w (omega arith) ∙ carried-blocks k (S .newest k - w) (suc w) (above S (S .newest k) ks) (omega arith) (omega arith))
         ∙ map-range-split (entry S (k ∷ above S (S .newest k) ks)) (suc n) (S .newest k - w) marks (suc w) (S .newest k - n) (omega arith) (omega arith)
 
-    after-ahead : n < S .newest k → S .newest k ≤ n + mostAhead → receiverAfter (at n kept) (sent S k) ≡ at (S .newest k) none
+    pub after-ahead : n < S .newest k → S .newest k ≤ n + mostAhead → receiverAfter (at n kept) (sent S k) ≡ at (S .newest k) none
     after-ahead h near = ap (λ (c : Course). receiverAfterAt c (next (wrapped (S .first + n))) kept (sent S k)) (course-ahead (S .first) n (S .newest k) hit h near)
 
     -- packet k, with no block ahead of block n

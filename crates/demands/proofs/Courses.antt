@@ -18,7 +18,7 @@ use Rattle.demands.specs.Ours.{ours}
 use Rattle.demands.specs.Courses.{HasCourse, Courses}
 
 -- the step, by the course
-step-by : (r : Receiver) (p : List ℕ) (v : Course) (m : HasCourse r p v) → stepOf r p ≡ stepBy v r p (m .content) (distance (m .content .sequence) (r .expected))
+pub step-by : (r : Receiver) (p : List ℕ) (v : Course) (m : HasCourse r p v) → stepOf r p ≡ stepBy v r p (m .content) (distance (m .content .sequence) (r .expected))
 unfolding stepOf
 step-by r p v m =
     let c = m .content in

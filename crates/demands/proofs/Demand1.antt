@@ -15,6 +15,11 @@ use Rattle.receiver_spec.specs.Opening.{receiverRefused}
 use Rattle.receiver_spec.specs.Answers.{Opening, refuses, isAccepted}
 use Rattle.receiver_spec.specs.State.{zeroReceiver, freshReceiver, openingChecks, Receiver, sourceExpected}
 use Rattle.receiver_spec.specs.Step.{stepRead, stepOf}
+use Rattle.holding_spec.specs.State.{freshHolding, zeroHolding}
+use Rattle.holding_spec.specs.Answers.{HoldingOpening, HoldingStep}
+use Rattle.holding_spec.specs.Opening as holding
+use Rattle.holding_spec.specs.Opening.{holdingRefused}
+use Rattle.holding_spec.specs.Step.{holdingStep}
 use Rattle.sender_spec.specs.State.{Settings, Sender, freshSender, zeroSender}
 use Rattle.sender_spec.specs.Answers as answers
 use Rattle.sender_spec.specs.Answers.{CallResult, ClockResult}
@@ -27,6 +32,7 @@ use Rattle.demands.specs.Ours.{ours}
 use Rattle.demands.specs.Demand1.{OnlyClock, Demand1}
 use Rattle.base.proofs.InOrder.{checked-of, refused-by}
 use Rattle.receiver_spec.proofs.Core.{accepts}
+use Rattle.holding_spec.proofs.Refusals.{refused-first, packet-refused, refused-packet, waiting-accepts, refused-stays}
 use Rattle.sender_spec.proofs.Calls as calls
 use Rattle.sender_spec.proofs.ChecksPassed.{open-passed, clock-passed}
 use Rattle.sender_spec.proofs.Shapes as shapes
@@ -51,6 +57,27 @@ module _ (t140 red : ℕ) where
   receiver-refused n = go (typesBad t140 red)
     where
       go : (b : Bool) → by b .number ≡ suc n → by b .receiver ≡ zeroReceiver
+      go true e = refl
+      go false e = absurd (omega arith)
+
+  -- and of one that holds
+  abbrev holdingBy : Bool → HoldingOpening
+  holdingBy b = cond b (holdingRefused 3) (record { number = 0; receiver = freshHolding t140 red })
+
+  holding-number : holding.openHolding t140 red .number ≡ numberBy (openingChecks t140 red)
+  holding-number = checked-of (λ (o : HoldingOpening). o .number) holdingRefused (openingChecks t140 red) _
+
+  pub holding-opened : holding.openHolding t140 red .number ≡ 0 → holding.openHolding t140 red .receiver ≡ freshHolding t140 red
+  holding-opened = go (typesBad t140 red)
+    where
+      go : (b : Bool) → holdingBy b .number ≡ 0 → holdingBy b .receiver ≡ freshHolding t140 red
+      go true e = absurd (omega arith)
+      go false e = refl
+
+  holding-refused : (n : ℕ) → holding.openHolding t140 red .number ≡ suc n → holding.openHolding t140 red .receiver ≡ zeroHolding
+  holding-refused n = go (typesBad t140 red)
+    where
+      go : (b : Bool) → holdingBy b .number ≡ suc n → holdingBy b .receiver ≡ zeroHolding
       go true e = refl
       go false e = absurd (omega arith)
 
@@ -116,17 +143,24 @@ clock-quiet s t p = go (clockOf s t p) (clock-shape s t p)
     go r (shapes.sent a b c d) e = absurd (let z : _≡_ {A = ℕ} 0 1 = cc in omega arith)
 
 pub demand-1 : Demand1 ours
-unfolding stepOf reading offerOf clockOf settingsNumber
+unfolding stepOf reading holdingStep offerOf clockOf settingsNumber
 demand-1 = record {
   receiver-number = receiver-number;
   receiver-opened = receiver-opened;
   receiver-refused = receiver-refused;
+  holding-number = holding-number;
+  holding-opened = holding-opened;
+  holding-refused = holding-refused;
   sender-number = sender-number;
   sender-opened = λ x o. open-passed x o .1;
   sender-refused = sender-refused;
   read-number = λ e t140 red p n. (λ h. h, λ h. h);
   step-number = λ r p n. (step-is r p n (reading level (sourceExpected r) (r .t140) (r .red) p), λ e. ap (λ (x : Read). stepRead r p x .answer) e);
   step-refused = step-refused;
+  hold-number = λ s t lent p n e. ap (λ (x : HoldingStep). x .answer) (refused-first s t lent p n e);
+  hold-packet = λ s t lent p n e. (packet-refused s t lent p n e, refused-packet s t lent p n e);
+  hold-wait = waiting-accepts;
+  hold-refused = refused-stays;
   offer-number = offer-number;
   offer-refused = offer-refused;
   clock-number = clock-number;
@@ -139,6 +173,7 @@ demand-1 = record {
   clock-refused = clock-refused;
   clock-quiet = clock-quiet;
   zero-receiver = λ p. refl;
+  zero-holding = λ t lent p. refl;
   zero-offer = λ t x. refl;
   zero-clock = λ t p. refl;
 }

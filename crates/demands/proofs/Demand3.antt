@@ -18,10 +18,11 @@ use Rattle.demands.specs.Sending.{Call, primarySent, written, finally, s
 use Rattle.demands.specs.Demand3.{rulesOf, packetAt, SpacedAfter, Demand3}
 use Rattle.receiver_spec.proofs.OneEach.{OneEach, all-accepted, no-mark}
 use Rattle.receiver_spec.proofs.TextGiven.{text-is-blocks}
+use Rattle.holding_spec.proofs.TextHanded as handed
 use Rattle.sender_spec.proofs.ChecksPassed.{open-passed}
 use Rattle.sender_spec.proofs.SettingsPass.{settings-good}
 use Rattle.demands.proofs.Demand1.{receiver-opened}
-use Rattle.demands.proofs.Recorded.{recorded}
+use Rattle.demands.proofs.Recorded.{recorded, holding-recorded}
 use Rattle.demands.proofs.OursKeeps.{keeps, spaced}
 use Rattle.demands.proofs.Arrives.{all-arrive}
 
@@ -57,6 +58,8 @@ pub demand-3 : Demand3 ours
 demand-3 = record {
   recorded = λ t140 red o rules packet keeps. recorded t140 red rules packet keeps o;
   text = text-is-blocks;
+  holding = λ t140 red o rules packet keeps. holding-recorded t140 red rules packet keeps o;
+  holding-text = handed.text-is-blocks;
   keeps = ours-keeps;
   spaced = λ x calls o. from-fresh x calls o (λ (s : Sender). SpacedAfter false 0 (x .buffering) (written ours s calls)) (spaced calls (freshSender x));
   arrives = λ x calls o. record { accepted = all-accepted (ours-arrive x calls o); record-is = no-mark (ours-arrive x calls o) };

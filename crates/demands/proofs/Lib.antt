@@ -10,9 +10,11 @@ pub mod RateTimes
 pub mod RateKept
 pub mod Rate
 pub mod Courses
+pub mod Holding
 pub mod LineTests
 pub mod ImpostorReceivers
 pub mod ImpostorSenders
 pub mod ImpostorRates
 pub mod ImpostorCourses
+pub mod ImpostorHolding
 pub mod Printed

@@ -3,6 +3,7 @@ use Prim.Native.Nat.{ℕ, _+_, _≤_}
 use mathlib.Core.Path.{_≡_}
 use mathlib.Core.List.{List, [], _∷_, map}
 use mathlib.Core.Bool.{Bool, true, false}
+use mathlib.Core.Option.{Option}
 use lib.ListN.{getD}
 use Rattle.packet_spec.specs.Redundancy.{joined}
 use Rattle.delivery.specs.Record.{block}
@@ -10,7 +11,11 @@ use Rattle.delivery.specs.Claim.{Near, expectedRecord}
 use Rattle.delivery.specs.Run.{Rules, senderOf}
 use Rattle.receiver_spec.specs.State.{Receiver}
 use Rattle.receiver_spec.specs.Record.{blocksGiven, recordOf, acceptedOf}
-use Rattle.sender_spec.specs.State.{Settings, Sender}
+use Rattle.holding_spec.specs.State.{HoldingReceiver}
+use Rattle.holding_spec.specs.Record as held
+use Rattle.holding_spec.specs.Record.{newBytes}
+use Rattle.holding_spec.specs.Claim.{nothingYet, HandsOut}
+use Rattle.sender_spec.specs.State.{Settings}
 use Rattle.demands.specs.Line.{Line}
 use Rattle.demands.specs.Sending.{Call, Written, primarySent, sentBy, leftBy}
 use Rattle.demands.specs.Rules.{KeepsRules}
@@ -49,6 +54,14 @@ pub record Demand3 (l : Line) : Type 0 where
       → recordOf (l .step) (l .openReceiver t140 red .receiver) given ≡ expectedRecord (senderOf rules) ks
   -- at every step the bytes of the blocks given, joined, are the text handed out
   pub text : (r : Receiver) (p : List ℕ) → l .handOut p (l .step r p .answer) ≡ joined (blocksGiven r p (l .step r p .answer))
+  -- with holding: whatever calls are made on the receiver that holds of an accepted opening, refused ones and those without a packet
+  -- included: where they hand out the packets ks of a sender that keeps the rules, the record is the expected one of these
+  pub holding : (t140 red : ℕ) → l .openHolding t140 red .number ≡ 0
+      → (rules : Rules) (packet : ℕ → List ℕ) → KeepsRules t140 red rules packet
+      → (calls : List held.Call) (ks : List ℕ) → HandsOut (senderOf rules) packet (l .hold) nothingYet (l .openHolding t140 red .receiver) calls ks
+      → held.recordOf (l .hold) (l .openHolding t140 red .receiver) calls ≡ expectedRecord (senderOf rules) ks
+  pub holding-text : (s : HoldingReceiver) (t : ℕ) (lent : List ℕ) (p : Option (List ℕ))
+      → l .handOutEither lent (newBytes p) (l .hold s t lent p .answer) ≡ joined (held.blocksGiven s (record { clock = t; lent = lent; packet = p }) (l .hold s t lent p .answer))
   -- after every list of offers and clock calls, refused ones included, from an accepted opening, our sender keeps the rules,
   pub keeps : (x : Settings) (calls : List Call) → l .openSender x .number ≡ 0
       → KeepsRules (x .t140) (x .red) (rulesOf x (sentBy l x calls) (leftBy l x calls .clock)) (packetAt (sentBy l x calls))

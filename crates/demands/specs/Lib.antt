@@ -7,4 +7,5 @@ pub mod Demand2
 pub mod Demand3
 pub mod Rate
 pub mod Courses
+pub mod Holding
 pub mod LineTests

@@ -4,6 +4,8 @@ use Rattle.packet_spec.specs.Limits.{level}
 use Rattle.packet_spec.specs.Reading.{reading, blockAt}
 use Rattle.receiver_spec.specs.Opening as receiver
 use Rattle.receiver_spec.specs.Step.{stepOf, textGiven}
+use Rattle.holding_spec.specs.Opening as holding
+use Rattle.holding_spec.specs.Step.{holdingStep, textHanded}
 use Rattle.sender_spec.specs.Calls as sender
 use Rattle.sender_spec.specs.Calls.{offerOf, clockOf}
 use Rattle.demands.specs.Line.{Line}
@@ -16,6 +18,9 @@ ours = record {
   openReceiver = receiver.openReceiver;
   step = stepOf;
   handOut = textGiven;
+  openHolding = holding.openHolding;
+  hold = holdingStep;
+  handOutEither = textHanded;
   openSender = sender.openSender;
   offer = offerOf;
   clock = clockOf;

@@ -8,7 +8,7 @@ use Rattle.packet.specs.declared.Outcome.{Outcome}
 use Rattle.packet.specs.declared.Outcome.the-variants.{Accepted, Refused}
 use Rattle.packet.specs.declared.Reading.{Reading}
 use Rattle.packet.specs.declared.Refusal.{Refusal}
-use Rattle.packet.specs.declared.Refusal.the-variants.{Level, Buffering, PayloadTypes, WaitingRoom, Clock, Text, NoText, Space, Rate, Short, Long, Version, Header, Padding, PayloadType, Source, BlockHeaders, BlockCount, BlockType, BlockLengths, BlockText, BlockAges}
+use Rattle.packet.specs.declared.Refusal.the-variants.{Level, Buffering, PayloadTypes, WaitingRoom, Clock, Text, NoText, Space, Rate, Short, Long, Version, Header, Padding, PayloadType, Source, BlockHeaders, BlockCount, BlockType, BlockLengths, BlockText, BlockAges, HeldPacket}
 use Rattle.packet.specs.Refusal.{number, outcomeNumber}
 use Rattle.packet.specs.Places.{numbered}
 
@@ -36,7 +36,8 @@ named n =
     (cond (eqb n 19) BlockType
     (cond (eqb n 20) BlockLengths
     (cond (eqb n 21) BlockText
-    BlockAges))))))))))))))))))))
+    (cond (eqb n 22) BlockAges
+    HeldPacket)))))))))))))))))))))
 
 named-number : (r : Refusal) → named (number r) ≡ r
 named-number Level = refl
@@ -61,6 +62,7 @@ named-number BlockType = refl
 named-number BlockLengths = refl
 named-number BlockText = refl
 named-number BlockAges = refl
+named-number HeldPacket = refl
 
 pub number-positive : (r : Refusal) → 1 ≤ number r
 number-positive Level = omega arith
@@ -85,6 +87,7 @@ number-positive BlockType = omega arith
 number-positive BlockLengths = omega arith
 number-positive BlockText = omega arith
 number-positive BlockAges = omega arith
+number-positive HeldPacket = omega arith
 
 pub number-names : (a b : Refusal) → number a ≡ number b → a ≡ b
 number-names a b e = sym (named-number a) ∙ ap named e ∙ named-number b

@@ -1,8 +1,8 @@
--- The number of each refusal: 01's "Refusal numbers", and 02's 9 and 22.
+-- The number of each refusal: 01's "Refusal numbers", and 02's 9, 22 and 27.
 use Prim.Native.Nat.{ℕ}
 use mathlib.Core.Bool.{Bool, true, false}
 use Rattle.packet.specs.declared.Refusal.{Refusal}
-use Rattle.packet.specs.declared.Refusal.the-variants.{Level, Buffering, PayloadTypes, WaitingRoom, Clock, Text, NoText, Space, Rate, Short, Long, Version, Header, Padding, PayloadType, Source, BlockHeaders, BlockCount, BlockType, BlockLengths, BlockText, BlockAges}
+use Rattle.packet.specs.declared.Refusal.the-variants.{Level, Buffering, PayloadTypes, WaitingRoom, Clock, Text, NoText, Space, Rate, Short, Long, Version, Header, Padding, PayloadType, Source, BlockHeaders, BlockCount, BlockType, BlockLengths, BlockText, BlockAges, HeldPacket}
 use Rattle.packet.specs.declared.Outcome.{Outcome}
 use Rattle.packet.specs.declared.Outcome.the-variants.{Accepted, Refused}
 
@@ -29,6 +29,7 @@ number BlockType = 19
 number BlockLengths = 20
 number BlockText = 21
 number BlockAges = 22
+number HeldPacket = 27
 
 -- 0 where a call is accepted
 abbrev pub outcomeNumber : Outcome → ℕ

@@ -30,6 +30,7 @@ pub enum Refusal {
     BlockLengths,
     BlockText,
     BlockAges,
+    HeldPacket,
 }
 
 impl Refusal {
@@ -60,6 +61,7 @@ impl Refusal {
             Refusal::BlockLengths => 20,
             Refusal::BlockText => 21,
             Refusal::BlockAges => 22,
+            Refusal::HeldPacket => 27,
         }
     }
 }

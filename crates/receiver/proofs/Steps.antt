@@ -5,6 +5,7 @@ use mathlib.Core.List.{List}
 use mathlib.Core.Bool.{Bool, true, false, cond}
 use native.Mathlib.Omega.{arith}
 use lib.IntN.{ℤ, pos}
+use borrow.Author.Tests.{le-ltb}
 use lib.ListN.{length, take, drop, length-append}
 use Rattle.packet.specs.declared.Outcome.the-variants.{Accepted, Refused}
 use Rattle.packet.specs.declared.Packet.{Packet}
@@ -18,11 +19,12 @@ use Rattle.packet.specs.Refusal.{number}
 use Rattle.packet.specs.Places.{numbered, placed, startOf, readOf}
 use Rattle.delivery.specs.Course.{Course, forward, late, jump, break, distance, courseOf, isKept, courseAt, wanted, loss}
 use Rattle.delivery.specs.Record.{lastOf}
-use Rattle.receiver_spec.specs.State.{Receiver, keptBy, sourceExpected}
+use Rattle.receiver_spec.specs.State.{Receiver, keptBy, withKept, sourceExpected}
 use Rattle.receiver_spec.specs.Distance.{signed}
-use Rattle.receiver_spec.specs.Step.{movedTo, givenFrom, allOf, stepRead, firstStep, stepBy, stepOf}
-use Rattle.receiver_spec.specs.Answers.{gives, isBreak, refuses}
-use Rattle.receiver.specs.internal.Accepted.{followed, jumped, broken, leapt, laterBy, laterAccepted, acceptedStep}
+use Rattle.receiver_spec.specs.Step.{movedTo, givenFrom, givenAt, allOf, stepRead, firstStep, stepBy, stepOf}
+use Rattle.receiver_spec.specs.Answers.{Step, gives, isBreak, refuses}
+use Rattle.receiver.specs.internal.Accepted.{followed, jumped, broken, leapt, laterBy, laterAccepted, acceptedStep, gaveStep}
+use Rattle.receiver.specs.internal.Read.{readStep, readGiven}
 use Rattle.packet_spec.proofs.RefusalNumbers.{reading-positive}
 use Rattle.packet_spec.proofs.BlockRuns.{reach, joined-split}
 use Rattle.packet_spec.proofs.BlocksLie.{Lies, lies, few, blocks-length}
@@ -84,24 +86,45 @@ module _ (r : Receiver) (p : List ℕ) (c : Content) (l : Lies p c) where
       by true break = breaks
       by false v = follows 0 (pos 0) n (omega arith)
 
+  -- and one that goes by its distance alone
+  gives-step : gaveStep r (placed level p c) ≡ record {
+    receiver = withKept (movedTo r (c .source) (c .sequence)) (r .hasKept) (r .kept);
+    answer = gives (givenAt p c (distance (c .sequence) (r .expected)));
+  }
+  gives-step =
+      let d = distance (c .sequence) (r .expected) in
+      ap (λ (s : Step). record { receiver = withKept (s .receiver) (r .hasKept) (r .kept); answer = s .answer })
+      (follows (loss d (length (c .older))) (signed d) (wanted d (length (c .older))) (omega arith))
+
+  -- a packet that was read before
+  module _ (small : length (c .older) ≤ level) where
+    pub read-step : readStep r (placed level p c) ≡ stepRead r p (holds c)
+    read-step = rw (le-ltb level (length (c .older)) small) same-step
+
+    pub read-given : readGiven r (placed level p c) ≡ record {
+      receiver = withKept (movedTo r (c .source) (c .sequence)) (r .hasKept) (r .kept);
+      answer = gives (givenAt p c (distance (c .sequence) (r .expected)));
+    }
+    read-given = rw (le-ltb level (length (c .older)) small) gives-step
+
 module _ (r : Receiver) (p : List ℕ) (x : Reading) (e : numbered x ≡ readOf (sourceExpected r) (r .t140) (r .red) p) where
   pub refused-step : (k : Refusal) → x .outcome ≡ Refused k → record { receiver = r; answer = refuses (number k) } ≡ stepOf r p
   unfolding readOf stepOf
   refused-step k o = sym (ap (stepRead r p) (was-refused level p x k (reading level (sourceExpected r) (r .t140) (r .red) p) o e))
 
-  held : x .outcome ≡ Accepted → (c : Content) × (reading level (sourceExpected r) (r .t140) (r .red) p ≡ holds c) × (x .packet ≡ placed level p c)
+  pub was-read : x .outcome ≡ Accepted → (c : Content) × (reading level (sourceExpected r) (r .t140) (r .red) p ≡ holds c) × (x .packet ≡ placed level p c)
   unfolding readOf
-  held o =
+  was-read o =
       was-accepted level p x (reading level (sourceExpected r) (r .t140) (r .red) p)
       (reading-positive level (sourceExpected r) (r .t140) (r .red) p) o e
 
   pub few-older : x .outcome ≡ Accepted → x .packet .count ≤ level
   few-older o =
-      let h = held o in
+      let h = was-read o in
       omega (arith, ap (λ (k : Packet). k .count) (h .2), few level (sourceExpected r) (r .t140) (r .red) p (h .0) (h .1))
 
   pub accepted-step : x .outcome ≡ Accepted → acceptedStep r (x .packet) ≡ stepOf r p
   unfolding stepOf
   accepted-step o =
-      let h = held o in
+      let h = was-read o in
       ap (acceptedStep r) (h .2) ∙ same-step r p (h .0) (lies level (sourceExpected r) (r .t140) (r .red) p (h .0) (h .1)) ∙ sym (ap (stepRead r p) (h .1))

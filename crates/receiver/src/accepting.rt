@@ -7,7 +7,7 @@ ghost use Rattle.delivery.specs.Numbers as Numbers;
 ghost use Rattle.receiver_spec.specs.Distance as Distance;
 ghost use Rattle.receiver_spec.specs.State.{keptBy};
 ghost use Rattle.receiver_spec.specs.Step.{movedTo};
-ghost use Rattle.receiver.specs.internal.Accepted.{followed, leapt, laterAccepted, acceptedStep};
+ghost use Rattle.receiver.specs.internal.Accepted.{followed, followedAt, leapt, laterAccepted, acceptedStep, gaveStep};
 ghost use Rattle.receiver.specs.View.{receiverOf, advanced};
 use crate::Advanced;
 use crate::Answer;
@@ -15,14 +15,14 @@ use crate::Receiver;
 use packet::Packet;
 
 // How far ahead of the expected number a packet is, wrapped.
-fn ahead(sequence: u16, expected: u16) -> u16
+pub fn ahead(sequence: u16, expected: u16) -> u16
     ensures { λ r. ⌜ r ≡ Course.distance sequence expected ⌝ }
 {
     std::num::wrapping_sub_u16(sequence, expected)
 }
 
 // The same as a signed number: below 0 where the packet is behind the expected one.
-fn signed(d: u16) -> i16
+pub fn signed(d: u16) -> i16
     ensures { λ r. ⌜ r ≡ Distance.signed d ⌝ }
 {
     if d < 32768 {
@@ -97,6 +97,17 @@ fn follow(receiver: Receiver, packet: Packet, loss: u16, distance: i16, wanted: 
     }
 }
 
+// The same by its distance: the last min(d, r) older blocks, and marks for what it lacks.
+fn follow_at(receiver: Receiver, packet: Packet, d: u16, distance: i16) -> Advanced
+    requires { ⌜ packet .count ≤ level ⌝ }
+    ensures { λ r. ⌜ advanced r ≡ followedAt (receiverOf receiver) packet d distance ⌝ }
+{
+    let older = packet.count;
+    let loss = loss_of(d, older);
+    let wanted = wanted_of(d, older);
+    follow(receiver, packet, loss, distance, wanted)
+}
+
 fn is_kept(receiver: Receiver, sequence: u16) -> bool
     ensures { λ r. ⌜ r ≡ Course.isKept (keptBy (receiverOf receiver)) sequence ⌝ }
 {
@@ -161,10 +172,7 @@ fn accept_later(receiver: Receiver, packet: Packet) -> Advanced
     if Receiver::LAST_FORWARD < distance {
         return leap(receiver, packet, distance);
     }
-    let older = packet.count;
-    let loss = loss_of(d, older);
-    let wanted = wanted_of(d, older);
-    follow(receiver, packet, loss, distance, wanted)
+    follow_at(receiver, packet, d, distance)
 }
 
 // The first packet gives all its blocks.
@@ -178,4 +186,29 @@ pub fn accept(receiver: Receiver, packet: Packet) -> Advanced
     }
     let older = packet.count;
     follow(receiver, packet, 0, 0, older)
+}
+
+// A packet that goes by its distance alone, as a forward one does; the number kept stays.
+pub fn give(receiver: Receiver, packet: Packet) -> Advanced
+    requires { ⌜ packet .count ≤ level ⌝ }
+    ensures { λ r. ⌜ advanced r ≡ gaveStep (receiverOf receiver) packet ⌝ }
+{
+    let sequence = packet.sequence;
+    let d = ahead(sequence, receiver.expected);
+    let distance = signed(d);
+    let followed = follow_at(receiver, packet, d, distance);
+    let moved = followed.receiver;
+    let answer = followed.answer;
+    Advanced {
+        receiver: Receiver {
+            t140: moved.t140,
+            red: moved.red,
+            has_source: moved.has_source,
+            has_kept: receiver.has_kept,
+            source: moved.source,
+            expected: moved.expected,
+            kept: receiver.kept,
+        },
+        answer,
+    }
 }

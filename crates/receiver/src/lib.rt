@@ -1,4 +1,4 @@
-// The receiver of a text line: its state, its opening and its step.
+// The receiver of a text line: its state, its opening and its step; and the parts of a step, for a receiver that holds packets.
 mod accepting;
 
 ghost use mathlib.Core.Path.{_≡_};
@@ -8,9 +8,13 @@ ghost use Rattle.packet.specs.Places.{expectedSource};
 ghost use Rattle.receiver_spec.specs.Opening.{openReceiver};
 ghost use Rattle.receiver_spec.specs.State.{freshReceiver};
 ghost use Rattle.receiver_spec.specs.Step.{stepOf, textGiven};
+ghost use Rattle.delivery.specs.Course.{distance};
+ghost use Rattle.receiver_spec.specs.Distance.{signed};
 ghost use Rattle.receiver.specs.View.{receiverOf, opening, stepAnswer, advanced, handed, handedOf};
+ghost use Rattle.receiver.specs.internal.Read.{readStep, readGiven};
 use packet::Expected;
 use packet::Outcome;
+use packet::Packet;
 use packet::Refusal;
 
 // The payload types; the source, once the first packet was accepted; the sequence number that is expected next; the number
@@ -86,7 +90,7 @@ fn fresh(t140: u8, red: u8) -> Receiver
 }
 
 // The source that a packet must have: any, before the first accepted one.
-fn source_expected(known: bool, source: u32) -> Expected
+pub fn source_expected(known: bool, source: u32) -> Expected
     ensures { λ r. ⌜ expectedSource r ≡ cond known (Only source) Any ⌝ }
 {
     if known {
@@ -156,6 +160,46 @@ impl Receiver {
                 accepting::accept(self, content)
             }
         }
+    }
+
+    // The step of a packet that was read before.
+    pub fn accept(self, packet: Packet) -> Advanced
+        ensures { λ r. ⌜ advanced r ≡ readStep (receiverOf self) packet ⌝ }
+    {
+        if Packet::LEVEL < packet.count {
+            return Advanced {
+                receiver: self,
+                answer: Answer::Refused(Refusal::BlockCount),
+            };
+        }
+        accepting::accept(self, packet)
+    }
+
+    // The same for one that goes by its distance alone, as a forward one does; the number kept stays.
+    pub fn give(self, packet: Packet) -> Advanced
+        ensures { λ r. ⌜ advanced r ≡ readGiven (receiverOf self) packet ⌝ }
+    {
+        if Packet::LEVEL < packet.count {
+            return Advanced {
+                receiver: self,
+                answer: Answer::Refused(Refusal::BlockCount),
+            };
+        }
+        accepting::give(self, packet)
+    }
+
+    // How far ahead of the expected number a packet is, wrapped; and as a signed number.
+    pub fn ahead(self, sequence: u16) -> u16
+        ensures { λ r. ⌜ r ≡ distance sequence (self .expected) ⌝ }
+    {
+        accepting::ahead(sequence, self.expected)
+    }
+
+    pub fn distance(self, sequence: u16) -> i16
+        ensures { λ r. ⌜ r ≡ signed (distance sequence (self .expected)) ⌝ }
+    {
+        let d = accepting::ahead(sequence, self.expected);
+        accepting::signed(d)
     }
 }
 

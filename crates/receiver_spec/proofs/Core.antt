@@ -52,7 +52,7 @@ module _ (r : Receiver) (p : List ℕ) (c : Content) (e : readBy r p ≡ holds c
       ∙ ap (entries 0) (given-is (length (c .older)) (omega arith))
       ∙ ap (λ (k : ℕ). entries 0 (core.lastBlocks k (packetOf c))) (sym same-length)
 
-  adds-is : (h : Bool) (v : Course) (d : ℕ)
+  pub adds-is : (h : Bool) (v : Course) (d : ℕ)
       → entriesOf r p (cond h (stepBy v r p c d) (firstStep r p c) .answer) ≡ cond h (core.addsAt v d (packetOf c)) (core.adds core.fresh (packetOf c))
   adds-is true forward d =
       ap (λ (x : Read). entries (loss d (length (c .older))) (lastOf (suc (wanted d (length (c .older)))) (blocksIn x))) e

@@ -38,6 +38,10 @@ givenFrom p c marks z w = record {
   to = payloadEnd p;
 }
 
+-- at distance d: loss d minus r, the last min(d, r) older blocks
+abbrev pub givenAt : List ℕ → Content → ℕ → Given
+givenAt p c d = givenFrom p c (loss d (length (c .older))) (signed d) (wanted d (length (c .older)))
+
 -- all blocks, loss 0, distance 0
 abbrev pub allOf : List ℕ → Content → Given
 allOf p c = givenFrom p c 0 (pos 0) (length (c .older))
@@ -46,13 +50,10 @@ allOf p c = givenFrom p c 0 (pos 0) (length (c .older))
 abbrev pub firstStep : Receiver → List ℕ → Content → Step
 firstStep r p c = record { receiver = movedTo r (c .source) (c .sequence); answer = gives (allOf p c) }
 
--- forward: loss d minus r, the last min(d, r) older blocks; late: state unchanged; a jump "hands out no text" and "keeps its sequence
--- plus 1, wrapped"; a break "starts the receiver afresh with the same source" and "gives all its blocks"
+-- late: state unchanged; a jump "hands out no text" and "keeps its sequence plus 1, wrapped"; a break "starts the receiver afresh
+-- with the same source" and "gives all its blocks"
 abbrev pub stepBy : Course → Receiver → List ℕ → Content → ℕ → Step
-stepBy forward r p c d = record {
-  receiver = movedTo r (c .source) (c .sequence);
-  answer = gives (givenFrom p c (loss d (length (c .older))) (signed d) (wanted d (length (c .older))));
-}
+stepBy forward r p c d = record { receiver = movedTo r (c .source) (c .sequence); answer = gives (givenAt p c d) }
 stepBy late r p c d = record { receiver = r; answer = isLate (signed d) }
 stepBy jump r p c d = record { receiver = keeping r (next (c .sequence)); answer = isJump (signed d) }
 stepBy break r p c d = record { receiver = movedTo r (c .source) (c .sequence); answer = isBreak (allOf p c) }

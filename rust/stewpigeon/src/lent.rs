@@ -11,7 +11,8 @@ mod guarded;
 
 use crate::library;
 pub use crate::library::{
-    Block, Log, Pace, Packet, Progress, Receiver, Sender, Settings, Step, TextAnswer, Texts,
+    Block, HoldingReceiver, HoldingStep, Log, Pace, Packet, Progress, Receiver, Sender, Settings,
+    Step, TextAnswer, Texts,
 };
 pub use guarded::{Guarded, Lend, Record};
 
@@ -26,6 +27,18 @@ impl Receiver {
         expected: 0,
         kept: 0,
     };
+
+    pub(crate) fn source(&self) -> Option<u32> {
+        (self.has_source != 0).then_some(self.source)
+    }
+
+    pub(crate) fn expected(&self) -> Option<u16> {
+        (self.has_source != 0).then_some(self.expected)
+    }
+
+    pub(crate) fn kept(&self) -> Option<u16> {
+        (self.has_kept != 0).then_some(self.kept)
+    }
 }
 
 impl Step {
@@ -37,6 +50,26 @@ impl Step {
         given: 0,
         from: 0,
         to: 0,
+    };
+}
+
+impl HoldingReceiver {
+    /// What a refused opening gives.
+    pub const ZERO: HoldingReceiver = HoldingReceiver {
+        receiver: Receiver::ZERO,
+        has_held: 0,
+        held: 0,
+        arrival: 0,
+        clock: 0,
+    };
+}
+
+impl HoldingStep {
+    pub const ZERO: HoldingStep = HoldingStep {
+        of: HoldingStep::NEITHER,
+        keep: HoldingStep::NEITHER,
+        again: 0,
+        step: Step::ZERO,
     };
 }
 
@@ -156,6 +189,62 @@ pub fn receiver_step(
             receiver.place_mut(),
             packet.as_ptr(),
             packet.len(),
+            step.place_mut(),
+        )
+    }
+}
+
+/// Opens a receiver that holds in the lent record: 0, or 3 and a record of
+/// zeros.
+#[inline]
+pub fn holding_receiver_open(receiver: &mut impl Lend<HoldingReceiver>, t140: u8, red: u8) -> u8 {
+    // SAFETY: the record is lent for the call only.
+    unsafe { library::stewpigeon_holding_receiver_open(receiver.place_mut(), t140, red) }
+}
+
+/// Gives a packet to a receiver that holds, with the packet held, which is not
+/// looked at where none is: 0 and the step where both are accepted, else the
+/// refusal's number.
+#[inline]
+pub fn holding_receiver_step(
+    receiver: &mut impl Lend<HoldingReceiver>,
+    clock: u64,
+    held: &[u8],
+    packet: &[u8],
+    step: &mut impl Lend<HoldingStep>,
+) -> u8 {
+    // SAFETY: both records, and the slices with their own lengths, are lent
+    // for the call only.
+    unsafe {
+        library::stewpigeon_holding_receiver_step(
+            receiver.place_mut(),
+            clock,
+            held.as_ptr(),
+            held.len(),
+            packet.as_ptr(),
+            packet.len(),
+            step.place_mut(),
+        )
+    }
+}
+
+/// Tells a receiver that holds the clock, without a packet: 0 and the step, or
+/// the refusal's number.
+#[inline]
+pub fn holding_receiver_wait(
+    receiver: &mut impl Lend<HoldingReceiver>,
+    clock: u64,
+    held: &[u8],
+    step: &mut impl Lend<HoldingStep>,
+) -> u8 {
+    // SAFETY: both records, and the slice with its own length, are lent for
+    // the call only.
+    unsafe {
+        library::stewpigeon_holding_receiver_wait(
+            receiver.place_mut(),
+            clock,
+            held.as_ptr(),
+            held.len(),
             step.place_mut(),
         )
     }

@@ -1,11 +1,13 @@
 //! The proved RTP text line (RFC 4103), linked from its static library: a
-//! packet reader, a receiver, a loss-mark writer and a sender.
+//! packet reader, two receivers, a loss-mark writer and a sender.
 //!
-//! A [`Receiver`] turns arriving packets into text and losses, a [`Sender`]
-//! turns text into packets, and [`read`] reads a single packet. Every call
-//! answers on every input; a [`Refusal`] changes nothing.
+//! A [`Receiver`] turns arriving packets into text and losses, and a
+//! [`HoldingReceiver`] does so with packets that wait for late ones; a
+//! [`Sender`] turns text into packets, and [`read`] reads a single packet.
+//! Every call answers on every input; a [`Refusal`] changes nothing.
 #![deny(unsafe_code)]
 
+mod holding;
 #[allow(unsafe_code)]
 pub mod lent;
 mod library;
@@ -14,6 +16,7 @@ mod receiver;
 mod refusal;
 mod sender;
 
+pub use holding::{HoldingReceiver, HoldingStep, Which};
 pub use library::Settings;
 pub use reader::{read, text, Older, Packet};
 pub use receiver::{write_marks, LossMark, Receiver, Step};

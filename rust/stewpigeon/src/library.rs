@@ -45,6 +45,45 @@ impl Step {
     pub const BREAK: u8 = 3;
 }
 
+/// A receiver that holds a packet, up to 1,000 ms, while numbers before it are
+/// missing.
+#[repr(C)]
+#[derive(Clone, Copy, Debug, PartialEq, Eq)]
+pub struct HoldingReceiver {
+    /// Of the packets handed out.
+    pub receiver: Receiver,
+    /// 0 where no packet is held; any other value counts as 1.
+    pub has_held: u8,
+    /// The number of the packet held; 0 where none is.
+    pub held: u16,
+    /// The clock at which it arrived; 0 where none is held.
+    pub arrival: u64,
+    /// The latest accepted clock.
+    pub clock: u64,
+}
+
+/// What an accepted call of a receiver that holds answers.
+#[repr(C)]
+#[derive(Clone, Copy, Debug, PartialEq, Eq)]
+pub struct HoldingStep {
+    /// Which packet the text is of: [`HoldingStep::NEITHER`],
+    /// [`HoldingStep::HELD`] or [`HoldingStep::NEW`].
+    pub of: u8,
+    /// Which one to keep, and to lend as held with the next call.
+    pub keep: u8,
+    /// 1 where the same packet is to be given again, else 0.
+    pub again: u8,
+    /// Of the packet given; where none is, the new one's course and distance.
+    pub step: Step,
+}
+
+/// The packets of a call, as [`crate::Which`] explains them.
+impl HoldingStep {
+    pub const NEITHER: u8 = 0;
+    pub const HELD: u8 = 1;
+    pub const NEW: u8 = 2;
+}
+
 /// What a sender is opened with.
 #[repr(C)]
 #[derive(Clone, Copy, Debug, PartialEq, Eq)]
@@ -191,6 +230,30 @@ extern "C" {
         packet: *const u8,
         packet_len: usize,
         step: *mut Step,
+    ) -> u8;
+
+    pub fn stewpigeon_holding_receiver_open(
+        receiver: *mut HoldingReceiver,
+        t140: u8,
+        red: u8,
+    ) -> u8;
+
+    pub fn stewpigeon_holding_receiver_step(
+        receiver: *mut HoldingReceiver,
+        clock: u64,
+        held: *const u8,
+        held_len: usize,
+        packet: *const u8,
+        packet_len: usize,
+        step: *mut HoldingStep,
+    ) -> u8;
+
+    pub fn stewpigeon_holding_receiver_wait(
+        receiver: *mut HoldingReceiver,
+        clock: u64,
+        held: *const u8,
+        held_len: usize,
+        step: *mut HoldingStep,
     ) -> u8;
 
     pub fn stewpigeon_write_marks(count: usize, space: *mut u8, space_len: usize) -> usize;

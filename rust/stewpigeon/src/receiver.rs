@@ -131,18 +131,18 @@ impl Receiver {
 
     /// The source of the first accepted packet.
     pub fn source(&self) -> Option<u32> {
-        (self.0.has_source != 0).then_some(self.0.source)
+        self.0.source()
     }
 
     /// The sequence number after the newest one.
     pub fn expected(&self) -> Option<u16> {
-        (self.0.has_source != 0).then_some(self.0.expected)
+        self.0.expected()
     }
 
     /// The sequence number after the last jump's, with no forward packet since:
     /// a break has it.
     pub fn kept(&self) -> Option<u16> {
-        (self.0.has_kept != 0).then_some(self.0.kept)
+        self.0.kept()
     }
 }
 

@@ -38,10 +38,11 @@ pub enum Refusal {
     BlockLengths = 20,
     BlockText = 21,
     BlockAges = 22,
+    HeldPacket = 27,
 }
 
 impl Refusal {
-    pub const ALL: [Refusal; 22] = [
+    pub const ALL: [Refusal; 23] = [
         Refusal::Level,
         Refusal::Buffering,
         Refusal::PayloadTypes,
@@ -64,9 +65,10 @@ impl Refusal {
         Refusal::BlockLengths,
         Refusal::BlockText,
         Refusal::BlockAges,
+        Refusal::HeldPacket,
     ];
 
-    /// Its number, 1 to 22.
+    /// Its number: 1 to 22, or 27.
     pub fn number(self) -> u8 {
         self as u8
     }
@@ -102,6 +104,7 @@ impl Refusal {
             Refusal::BlockLengths => "older blocks' lengths pass the end",
             Refusal::BlockText => "a block is not UTF-8",
             Refusal::BlockAges => "older blocks' time offsets do not fall to 1 or more",
+            Refusal::HeldPacket => "the packet lent as held is refused or has another number",
         }
     }
 
@@ -124,6 +127,9 @@ impl Refusal {
             Refusal::Source => "drop it, or open another receiver for a new source",
             Refusal::BlockAges => {
                 "drop it, and have the sender mended if more than its first packet is refused"
+            }
+            Refusal::HeldPacket => {
+                "lend, unaltered, the packet that the last accepted call said to keep"
             }
             Refusal::Header
             | Refusal::Padding

@@ -207,7 +207,7 @@ fn texts() {
 #[test]
 fn refusals_and_their_numbers() {
     let numbers: Vec<u8> = Refusal::ALL.into_iter().map(Refusal::number).collect();
-    assert_eq!(numbers, (1..=22).collect::<Vec<u8>>());
+    assert_eq!(numbers, (1..=22).chain([27]).collect::<Vec<u8>>());
     for number in 0..=255 {
         let refusal = Refusal::of(number);
         assert_eq!(refusal.is_some(), numbers.contains(&number));
@@ -230,12 +230,20 @@ fn refusals_and_their_numbers() {
         "refused 9: rate 0 or above 100 characters a second; \
          open with 1 to 100 characters a second, 30 being usual"
     );
+    let shown = Refusal::HeldPacket.to_string();
+    assert_eq!(
+        shown,
+        "refused 27: the packet lent as held is refused or has another number; \
+         lend, unaltered, the packet that the last accepted call said to keep"
+    );
 }
 
 #[test]
 fn sizes() {
     assert_eq!(size_of::<lent::Receiver>(), 12);
     assert_eq!(size_of::<lent::Step>(), 40);
+    assert_eq!(size_of::<lent::HoldingReceiver>(), 32);
+    assert_eq!(size_of::<lent::HoldingStep>(), 48);
     assert_eq!(size_of::<lent::Packet>(), 136);
     assert_eq!(size_of::<TextAnswer>(), 24);
     assert_eq!(size_of::<lent::Sender>(), 200);

@@ -7,7 +7,7 @@ use Rattle.packet.specs.Places.{startOf}
 use Rattle.delivery.specs.Numbers.{next}
 use Rattle.delivery.specs.Course.{Course, forward, late, jump, break, distance, courseOf, isKept, wanted, loss}
 use Rattle.receiver_spec.specs.Distance.{signed}
-use Rattle.receiver_spec.specs.State.{Receiver, keptBy, keeping}
+use Rattle.receiver_spec.specs.State.{Receiver, keptBy, withKept, keeping}
 use Rattle.receiver_spec.specs.Step.{movedTo}
 use Rattle.receiver_spec.specs.Answers.{Step, gives, isBreak, isJump, isLate}
 
@@ -25,6 +25,10 @@ followed r k marks z w = record {
   });
 }
 
+-- at distance d, which is z as a signed number
+abbrev pub followedAt : Receiver → Packet → ℕ → ℤ → Step
+followedAt r k d z = followed r k (loss d (k .count)) z (wanted d (k .count))
+
 -- a jump, and a break, which gives all blocks
 abbrev pub jumped : Receiver → Packet → ℤ → Step
 jumped r k z = record { receiver = keeping r (next (k .sequence)); answer = isJump z }
@@ -40,7 +44,7 @@ abbrev pub leapt : Receiver → Packet → ℤ → Step
 leapt r k z = cond (isKept (keptBy r) (k .sequence)) (broken r k) (jumped r k z)
 
 abbrev pub laterBy : Course → Receiver → Packet → ℕ → Step
-laterBy forward r k d = followed r k (loss d (k .count)) (signed d) (wanted d (k .count))
+laterBy forward r k d = followedAt r k d (signed d)
 laterBy late r k d = record { receiver = r; answer = isLate (signed d) }
 laterBy jump r k d = jumped r k (signed d)
 laterBy break r k d = broken r k
@@ -50,3 +54,9 @@ laterAccepted r k d = laterBy (courseOf d (isKept (keptBy r) (k .sequence))) r k
 
 abbrev pub acceptedStep : Receiver → Packet → Step
 acceptedStep r k = cond (r .hasSource) (laterAccepted r k (distance (k .sequence) (r .expected))) (followed r k 0 (pos 0) (k .count))
+
+-- a packet that goes by its distance alone: as a forward one, but for the number kept, which stays
+abbrev pub gaveStep : Receiver → Packet → Step
+gaveStep r k =
+    let s = laterBy forward r k (distance (k .sequence) (r .expected)) in
+    record { receiver = withKept (s .receiver) (r .hasKept) (r .kept); answer = s .answer }

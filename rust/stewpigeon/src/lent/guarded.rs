@@ -6,7 +6,8 @@ use std::ptr::addr_of_mut;
 use std::slice;
 
 use crate::library::{
-    Block, Log, Pace, Packet, Progress, Receiver, Sender, Settings, Step, TextAnswer, Texts,
+    Block, HoldingReceiver, HoldingStep, Log, Pace, Packet, Progress, Receiver, Sender, Settings,
+    Step, TextAnswer, Texts,
 };
 
 mod sealed {
@@ -71,6 +72,8 @@ macro_rules! fields {
 
 fields!(Receiver: t140, red, has_source, has_kept, source, expected, kept);
 fields!(Step: course, loss, distance, older, given, from, to);
+fields!(HoldingReceiver: receiver, has_held, held, arrival, clock);
+fields!(HoldingStep: of, keep, again, step);
 fields!(Block: offset, at, len);
 fields!(Packet: marker, sequence, timestamp, source, count, older, primary, end);
 fields!(TextAnswer: is_text, characters, place);
@@ -101,7 +104,8 @@ macro_rules! records {
     };
 }
 
-records!(Receiver, Step, Packet, TextAnswer, Sender, Texts, Log);
+records!(Receiver, Step, HoldingReceiver, HoldingStep);
+records!(Packet, TextAnswer, Sender, Texts, Log);
 
 /// The words before a record, and those behind it.
 const AROUND: usize = 4;

@@ -1,5 +1,5 @@
 use Prim.Native.Nat.{ℕ}
-use mathlib.Core.Path.{_≡_, _∙_, ap, sym}
+use mathlib.Core.Path.{_≡_, _∙_, ap, ap₂, sym}
 use mathlib.Core.Bool.{Bool, true, false, cond}
 use native.Mathlib.Omega.{arith}
 use lib.IntN.{ℤ, pos, negsuc}
@@ -8,12 +8,12 @@ use mir.Syntax.{w16}
 use mir.Val.{toZ, ofZ}
 use mir.Facts.{toZ-ofZ}
 use borrow.Author.Needs.{needs}
-use Rattle.delivery.specs.Course.{forward, late, jump, break, distance, courseOf, isKept, wanted, loss}
+use Rattle.delivery.specs.Course.{forward, late, jump, break, distance, courseOf, isKept}
 use Rattle.receiver_spec.specs.Distance.{signed}
 use Rattle.receiver_spec.specs.State.{keptBy}
-use Rattle.receiver_spec.specs.Answers.{isLate}
+use Rattle.receiver_spec.specs.Answers.{Step, isLate}
 use Rattle.receiver.specs.View.{receiverOf}
-use Rattle.receiver.specs.internal.Accepted.{followed, leapt}
+use Rattle.receiver.specs.internal.Accepted.{followedAt, leapt}
 use Rattle.receiver.proofs.SignedDistance.{bySigned, course-by-signed}
 use Rattle.receiver.proofs.Steps.{leapt-step}
 use Rattle.receiver.proofs.accepting.accept_later.Statement.{statement}
@@ -78,32 +78,20 @@ returns-3 c =
     let v : courseOf (d q) (kept q) ≡ cond (kept q) break jump = course-is q ∙ rw (ahead, far) in
     c .leap2 .ensures ∙ ap (leapt (receiverOf (a .receiver)) (a .packet)) (signed-is q) ∙ leapt-step (receiverOf (a .receiver)) (a .packet) (d q) v
 
-loss-of-requires : tie.Need-loss-of-requires
-loss-of-requires c κs = search needs
-
-wanted-of-requires : tie.Need-wanted-of-requires
-wanted-of-requires c κs = search needs
-
-follow-requires : tie.Need-follow-requires
-follow-requires c κs = search needs
+follow-at-requires : tie.Need-follow-at-requires
+follow-at-requires c κs = search needs
 
 returns-4 : tie.Need-returns-4
 returns-4 c =
-    let b = c .before .before .before in
+    let b = c .before in
     let q = b .before .before in
     let a = q .before .before .args in
-    let n = a .packet .count in
-    let e : q .before .ahead .result ≡ d q = q .before .ahead .ensures in
     let ahead : ltZ (z q) (pos 0) ≡ false = b .before .if1 .left in
     let near : ltZ (pos 2998) (z q) ≡ false = b .if3 .left in
     let v : courseOf (d q) (kept q) ≡ forward = course-is q ∙ rw (ahead, near) in
-    let l : c .before .before .loss-of .result ≡ loss (d q) n = c .before .before .loss-of .ensures ∙ ap (λ (k : ℕ). loss k n) e in
-    let w : c .before .wanted-of .result ≡ wanted (d q) n = c .before .wanted-of .ensures ∙ ap (λ (k : ℕ). wanted k n) e in
     rw v
-    (c .follow .ensures
-    ∙ ap (λ (k : ℕ). followed (receiverOf (a .receiver)) (a .packet) k (z q) (c .before .wanted-of .result)) l
-    ∙ ap (λ (x : ℤ). followed (receiverOf (a .receiver)) (a .packet) (loss (d q) n) x (c .before .wanted-of .result)) (signed-is q)
-    ∙ ap (followed (receiverOf (a .receiver)) (a .packet) (loss (d q) n) (signed (d q))) w)
+    (c .follow-at .ensures
+    ∙ ap₂ {C = Step} (followedAt (receiverOf (a .receiver)) (a .packet)) (q .before .ahead .ensures) (signed-is q))
 
 pub accept-later-spec : {M : Type 1} → statement M
 accept-later-spec =
@@ -116,7 +104,5 @@ accept-later-spec =
     returns-2
     leap-requires-2
     returns-3
-    loss-of-requires
-    wanted-of-requires
-    follow-requires
+    follow-at-requires
     returns-4)

@@ -1,0 +1,4 @@
+pub mod Readings
+pub mod Arrivals
+pub mod Calls
+pub mod Advancing

@@ -1,0 +1,7 @@
+pub mod HoldingTests
+pub mod Refusals
+pub mod Turns
+pub mod Recorded
+pub mod TextHanded
+pub mod ByStep
+pub mod Edges

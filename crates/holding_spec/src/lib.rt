@@ -1,0 +1,1 @@
+// Definitions and theorems: the receiver that holds a packet. No function.
