@@ -10,6 +10,10 @@ use Rattle.receiver_spec.specs.Opening.{openReceiver}
 use Rattle.receiver_spec.specs.State.{freshReceiver, Receiver}
 use Rattle.receiver_spec.specs.Step.{stepOf}
 use Rattle.receiver_spec.specs.Record.{recordOf, acceptedOf}
+use Rattle.holding_spec.specs.Opening.{openHolding}
+use Rattle.holding_spec.specs.Step.{holdingStep}
+use Rattle.holding_spec.specs.Record as held
+use Rattle.holding_spec.specs.Claim.{nothingYet, HandsOut}
 use Rattle.sender_spec.specs.State.{Settings, Sender, freshSender}
 use Rattle.sender_spec.specs.Calls as sender
 use Rattle.demands.specs.Ours.{ours}
@@ -46,6 +50,14 @@ module _ (x : Settings) (calls : List Call) (o : sender.openSender x .number ≡
       → Near (senderOf (rulesOf x (sentBy ours x calls) (leftBy ours x calls .clock))) ks
       → recordOf stepOf (openReceiver (x .t140) (x .red) .receiver) given ≡ expectedRecord (senderOf (rulesOf x (sentBy ours x calls) (leftBy ours x calls .clock))) ks
   ours-recorded = recorded (x .t140) (x .red) _ _ ours-keeps opens
+
+  -- with holding likewise
+  pub ours-holding : (given : List held.Call) (ks : List ℕ)
+      → HandsOut (senderOf (rulesOf x (sentBy ours x calls) (leftBy ours x calls .clock))) (packetAt (sentBy ours x calls)) holdingStep nothingYet (openHolding (x .t140) (x .red) .receiver) given ks
+      → held.recordOf holdingStep (openHolding (x .t140) (x .red) .receiver) given ≡ expectedRecord (senderOf (rulesOf x (sentBy ours x calls) (leftBy ours x calls .clock))) ks
+  ours-holding =
+      let t : typesBad (x .t140) (x .red) ≡ false = settings-good x (open-passed x o .0) .typed in
+      holding-recorded (x .t140) (x .red) _ _ ours-keeps (rw t)
 
   -- given once each and in order, its packets add their primaries, one each
   pub ours-arrive : OneEach (openReceiver (x .t140) (x .red) .receiver) (map (λ w. w .packet) (sentBy ours x calls)) (map primarySent (sentBy ours x calls))

@@ -3,6 +3,7 @@
 
 mod blocks;
 mod contest;
+mod holding;
 mod inputs;
 mod letters;
 mod packets;
@@ -32,10 +33,10 @@ const SELDOM: (u64, u64) = (Schedule::SELDOM, 200_000);
 
 const USAGE: &str = "\
 usage: bench
-       bench reading|texts
+       bench reading|holding|texts
        bench offers|sending|quiet LEVEL TIMES
        bench text|read KIND TIMES
-       bench step line TIMES
+       bench step|holding line TIMES
 LEVEL is 0 to 4. KIND is the first word of a row that `bench texts` prints; for
 read also mixed and line.";
 
@@ -53,6 +54,10 @@ fn timed(parts: &[fn()]) {
 fn reading() {
     reading::packets(&packets::mixed(SEED, TIMED));
     stepping::steps(&packets::line(SEED, TIMED));
+}
+
+fn holding() {
+    holding::steps(&packets::reordered(SEED, TIMED));
 }
 
 fn sending() {
@@ -102,6 +107,12 @@ fn steps(kind: &str, times: usize) -> Option<usize> {
     Some(stepping::repeated(&packets, times))
 }
 
+/// The same with a receiver that holds.
+fn holds(kind: &str, times: usize) -> Option<usize> {
+    let arrivals = (kind == "line").then(|| packets::reordered(SEED, COUNTED))?;
+    Some(holding::repeated(&arrivals, times))
+}
+
 /// Makes calls of one kind, so many times over. Answers how many calls, letters
 /// or packets a turn has; none where the words name no kind.
 fn repeated(calls: &str, of: &str, times: &str) -> Option<usize> {
@@ -110,6 +121,7 @@ fn repeated(calls: &str, of: &str, times: &str) -> Option<usize> {
         "text" => texts::repeated(of, times),
         "read" => reads(of, times),
         "step" => steps(of, times),
+        "holding" => holds(of, times),
         _ => sends(calls, of, times),
     }
 }
@@ -118,8 +130,9 @@ fn main() -> ExitCode {
     let words: Vec<String> = env::args().skip(1).collect();
     let words: Vec<&str> = words.iter().map(String::as_str).collect();
     match words[..] {
-        [] => timed(&[reading, sending, texts]),
+        [] => timed(&[reading, holding, sending, texts]),
         ["reading"] => timed(&[reading]),
+        ["holding"] => timed(&[holding]),
         ["texts"] => timed(&[texts]),
         [calls, of, times] => match repeated(calls, of, times) {
             Some(count) => say!("{count}"),

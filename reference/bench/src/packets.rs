@@ -19,6 +19,59 @@ pub fn line(seed: u64, count: usize) -> Inputs {
     Inputs::of(count, || arrival(&mut random, &mut number))
 }
 
+/// Packets of one line that change places on their way, and when each of them
+/// arrives.
+pub struct Arrivals {
+    pub packets: Inputs,
+    clocks: Vec<u64>,
+}
+
+impl Arrivals {
+    pub fn iter(&self) -> impl Iterator<Item = (u64, &[u8])> {
+        self.clocks.iter().copied().zip(self.packets.iter())
+    }
+}
+
+/// So many arrivals of a line that sends every 300 ms. Of 100 packets 3 are
+/// lost and 10 come 100 to 1,500 ms later than the others.
+pub fn reordered(seed: u64, count: usize) -> Arrivals {
+    let mut random = Random::new(seed);
+    let mut arrivals = vec![];
+    let mut sent = 0;
+    while arrivals.len() < count {
+        let delay = match random.below(100) {
+            0..3 => None,
+            3..13 => Some(random.within(100, 1_500)),
+            _ => Some(random.below(60)),
+        };
+        arrivals.extend(delay.map(|delay| (300 * sent + delay, sent)));
+        sent += 1;
+    }
+    arrivals.sort();
+    let clocks = arrivals.iter().map(|(clock, _)| *clock as u64).collect();
+    let mut numbers = arrivals.into_iter().map(|(_, sent)| 65_000 + sent);
+    let packets = Inputs::of(count, || {
+        let number = numbers.next().expect("as many numbers");
+        numbered(&mut random, number as u16)
+    });
+    Arrivals { packets, clocks }
+}
+
+/// A packet of a line: 60 in 100 typed RED, 35 T140, 5 damaged so that they
+/// are refused.
+fn numbered(random: &mut Random, number: u16) -> Vec<u8> {
+    let kind = random.below(20);
+    let mut plan = match kind {
+        0..7 => plain(random),
+        _ => typed(random),
+    };
+    (plan.source, plan.sequence) = (SOURCE, number);
+    match kind {
+        19 => damaged(random, plan.bytes()),
+        _ => plan.bytes(),
+    }
+}
+
 /// 60 in 100 typed RED, 20 T140, 10 longer, 10 damaged.
 fn packet(random: &mut Random) -> Vec<u8> {
     match random.below(10) {

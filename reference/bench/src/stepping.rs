@@ -2,11 +2,12 @@
 
 use crate::contest::{add, contest, passes, timed};
 use crate::inputs::Inputs;
+use compare::calls::answers;
 use compare::say;
-use independent::receiver::{Added, Answer, Receiver};
+use independent::receiver::{Answer, Receiver};
 use stewpigeon::lent;
 
-fn figure(step: &lent::Step) -> u64 {
+pub fn figure(step: &lent::Step) -> u64 {
     let distance = step.distance as u64;
     let blocks = 7 * step.older + 11 * step.given + 13 * step.from + 17 * step.to;
     let course = 1000 * u64::from(step.course);
@@ -33,37 +34,13 @@ fn independent_step<'a>(receiver: &mut Receiver, packet: &'a [u8]) -> Answer<'a>
     receiver.step(packet)
 }
 
-fn nothing(course: u8, distance: i32) -> u64 {
-    figure(&lent::Step {
-        course,
-        distance: distance as i16,
-        ..lent::Step::ZERO
-    })
-}
-
-fn given(course: u8, added: &Added) -> u64 {
-    let (from, to) = added.place();
-    figure(&lent::Step {
-        course,
-        loss: added.loss,
-        distance: added.distance as i16,
-        older: added.older(),
-        given: added.wanted + 1,
-        from,
-        to,
-    })
-}
-
 fn independent(packets: &Inputs) -> u64 {
     let mut receiver = Receiver::open(98, 100).expect("good payload types");
     let mut sum = 0;
     for packet in packets.iter() {
-        let figure = match independent_step(&mut receiver, packet) {
-            Answer::Refused(number) => u64::from(number),
-            Answer::Late { distance } => nothing(lent::Step::LATE, distance),
-            Answer::Jump { distance } => nothing(lent::Step::JUMP, distance),
-            Answer::Forward(added) => given(lent::Step::FORWARD, &added),
-            Answer::Break(added) => given(lent::Step::BREAK, &added),
+        let figure = match answers::step(&independent_step(&mut receiver, packet)) {
+            Ok(step) => figure(&step),
+            Err(number) => u64::from(number),
         };
         sum = add(sum, figure);
     }

@@ -24,6 +24,9 @@ fn usage() {
         &["read", "ascii-40", "1", "1"],
         &["step", "mixed", "1"],
         &["step", "line", "once"],
+        &["holding", "line"],
+        &["holding", "mixed", "1"],
+        &["holding", "line", "once"],
     ] {
         let output = bench(arguments).output().unwrap();
         assert_eq!(output.status.code(), Some(2), "{arguments:?}");
@@ -79,6 +82,9 @@ fn packets_of_one_kind() {
     for kind in ["mixed", "line"] {
         assert_eq!(count("read", kind), "20000\n", "{kind}");
     }
+    for calls in ["step", "holding"] {
+        assert_eq!(count(calls, "line"), "20000\n", "{calls}");
+    }
     for mix in ["ascii", "one-in-10", "two-byte"] {
         for (letters, packets) in [(1, 8000), (6, 8000), (40, 1666), (160, 416)] {
             let kind = format!("{mix}-{letters}");
@@ -97,7 +103,7 @@ fn packets_of_one_kind() {
 
 #[test]
 fn closed_output() {
-    for arguments in [&[][..], &["reading"], &["texts"]] {
+    for arguments in [&[][..], &["reading"], &["holding"], &["texts"]] {
         let (reader, writer) = std::io::pipe().unwrap();
         drop(reader);
         let output = bench(arguments).stdout(writer).output().unwrap();

@@ -14,7 +14,7 @@ const USAGE: &str = "\
 Usage: compare [--seed N | --random-seed] [--packets N] [--calls N]
 
 Gives generated packets to the proved reader and to an independent one, then
-calls to the proved receiver, mark writer and sender and to independent ones,
+calls to the proved receivers, mark writer and sender and to independent ones,
 and stops at the first difference.
 
   --seed N        generate from seed N (default 4103)

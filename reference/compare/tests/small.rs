@@ -60,6 +60,8 @@ fn answers_never_given_are_named() {
     assert!(missing.contains(&"sender clock was never answered quiet".to_string()));
     assert!(missing.contains(&"sender offer was never answered 4".to_string()));
     assert!(missing.contains(&"receiver step was never answered 22".to_string()));
+    assert!(missing.contains(&"holding step was never answered held-again".to_string()));
+    assert!(missing.contains(&"holding wait was never answered 27".to_string()));
     assert!(!missing.contains(&"sender clock was never answered sent".to_string()));
     assert!(missing.contains(&"never met: a blue moon".to_string()));
 }
@@ -80,4 +82,9 @@ fn values_of_flags_never_met_are_named() {
     assert!(missing.contains("receiver step, jump: has_source was never [1, 2, "));
     assert!(missing.contains("receiver step, break: has_kept was never [1, 2, "));
     assert!(missing.contains("sender offer, refused: sent was never [77]"));
+    assert!(missing.contains("holding step, late: has_held was never [0]"));
+    assert!(missing.contains("holding step, late-keep-held: has_held was never [1, 2, "));
+    assert!(missing.contains("holding step, held-again: has_kept was never [1, 2, "));
+    assert!(missing.contains("holding wait, held: has_source was never [0, 1, 2, "));
+    assert!(missing.contains("holding wait, refused: has_held was never [0, 1, 2, "));
 }

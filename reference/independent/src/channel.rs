@@ -113,6 +113,23 @@ fn clock_call(random: &mut Random, clock: u64) -> Call {
     Call::Clock { clock, space }
 }
 
+/// Settings and calls for a line of so many packets, each with one letter. At
+/// 11 ms from one to the next no letter is held back.
+pub fn lettered(random: &mut Random, level: usize, packets: u64) -> (Settings, Vec<Call>) {
+    let settings = Settings {
+        buffering: 1,
+        rate: 100,
+        ..settings(random, level)
+    };
+    let mut calls = vec![];
+    for clock in (0..packets).map(|k| 11 * k) {
+        let text = vec![b'a' + (clock % 26) as u8];
+        calls.push(Call::Offer { clock, text });
+        calls.push(Call::Clock { clock, space: 900 });
+    }
+    (settings, calls)
+}
+
 /// Gives the calls to a sender and keeps what it sends.
 pub fn send(settings: Settings, calls: &[Call]) -> Line {
     let mut sender = Sender::open(settings).expect("good settings");

@@ -1,10 +1,12 @@
-//! A second reader, receiver and sender of RTP text packets (RFC 4103) and a
-//! second journal reader and transcript, to hold the proved ones against.
-//! They were written from the buyer's papers and the RFCs alone.
+//! A second reader, receiver and sender of RTP text packets (RFC 4103), a
+//! second receiver that holds packets, and a second journal reader and
+//! transcript, to hold the proved ones against. They were written from the
+//! buyer's papers and the RFCs alone.
 #![forbid(unsafe_code)]
 
 pub mod block;
 pub mod channel;
+pub mod holding;
 pub mod journal;
 pub mod journals;
 pub mod maker;

@@ -9,28 +9,61 @@ pub const MARK: [u8; 3] = [0xef, 0xbf, 0xbd];
 pub struct Receiver {
     t140: u8,
     red: u8,
-    heard: Option<Heard>,
+    pub(crate) heard: Option<Heard>,
 }
 
 /// What a receiver knows once it has accepted a packet.
 #[derive(Clone, Copy, Debug, PartialEq, Eq)]
-struct Heard {
+pub(crate) struct Heard {
     source: u32,
-    newest: u16,
+    pub(crate) newest: u16,
     /// The number after the last jump's, until a forward packet or a break.
-    kept: Option<u16>,
+    pub(crate) kept: Option<u16>,
+}
+
+/// How a number stands to the newest.
+#[derive(Clone, Copy, Debug, PartialEq, Eq)]
+pub enum Course {
+    Forward,
+    Late,
+    Jump,
+    Break,
 }
 
 impl Heard {
     /// A receiver's knowledge when this packet is the newest.
     #[inline]
-    fn of(packet: &Packet) -> Self {
+    pub(crate) fn of(packet: &Packet) -> Self {
         Heard {
             source: packet.source,
             newest: packet.sequence,
             kept: None,
         }
     }
+
+    /// How far a number is ahead of the next one in order, wrapped.
+    #[inline]
+    pub(crate) fn distance(&self, number: u16) -> u16 {
+        number.wrapping_sub(self.newest).wrapping_sub(1)
+    }
+
+    /// The limits of RFC 3550, appendix A.1, are measured from the newest
+    /// number, the distance from the next one.
+    #[inline]
+    pub(crate) fn course(&self, number: u16) -> Course {
+        match number.wrapping_sub(self.newest) {
+            1..=2_999 => Course::Forward,
+            0 | 65_437.. => Course::Late,
+            _ if self.kept == Some(number) => Course::Break,
+            _ => Course::Jump,
+        }
+    }
+}
+
+/// A wrapped distance with its sign.
+#[inline]
+pub(crate) fn signed(distance: u16) -> i32 {
+    (distance as i16).into()
 }
 
 /// What comes of one packet. Distances are measured from the next number in
@@ -78,7 +111,7 @@ pub struct Added<'a> {
 impl<'a> Added<'a> {
     /// All blocks of a packet before which nothing is missed.
     #[inline]
-    fn whole(packet: Packet<'a>) -> Self {
+    pub(crate) fn whole(packet: Packet<'a>) -> Self {
         Added {
             loss: 0,
             distance: 0,
@@ -89,7 +122,7 @@ impl<'a> Added<'a> {
 
     /// The blocks of a packet whose number is so far above the next in order.
     #[inline]
-    fn ahead(distance: u16, packet: Packet<'a>) -> Self {
+    pub(crate) fn ahead(distance: u16, packet: Packet<'a>) -> Self {
         let carried = packet.older().len() as u16;
         Added {
             loss: distance.saturating_sub(carried),
@@ -185,10 +218,16 @@ impl Receiver {
         self.heard.and_then(|heard| heard.kept)
     }
 
+    /// Reads a packet; once a source is known, only its packets are accepted.
+    #[inline]
+    pub(crate) fn read<'a>(&self, packet: &'a [u8]) -> Result<Packet<'a>, u8> {
+        read(self.source(), self.t140, self.red, packet)
+    }
+
     /// Takes the next packet; allocates nothing.
     #[inline]
     pub fn step<'a>(&mut self, packet: &'a [u8]) -> Answer<'a> {
-        let packet = match read(self.source(), self.t140, self.red, packet) {
+        let packet = match self.read(packet) {
             Ok(packet) => packet,
             Err(number) => return Answer::Refused(number),
         };
@@ -196,24 +235,24 @@ impl Receiver {
             self.heard = Some(Heard::of(&packet));
             return Answer::Forward(Added::whole(packet));
         };
-        // The limits of RFC 3550, appendix A.1, are measured from the newest
-        // number, the distance from the next one.
-        let ahead = packet.sequence.wrapping_sub(heard.newest);
-        let distance = ahead.wrapping_sub(1);
-        let signed = i32::from(distance as i16);
-        match ahead {
-            1..=2_999 => {
+        let distance = heard.distance(packet.sequence);
+        match heard.course(packet.sequence) {
+            Course::Forward => {
                 *heard = Heard::of(&packet);
                 Answer::Forward(Added::ahead(distance, packet))
             }
-            0 | 65_437.. => Answer::Late { distance: signed },
-            _ if heard.kept == Some(packet.sequence) => {
+            Course::Late => Answer::Late {
+                distance: signed(distance),
+            },
+            Course::Break => {
                 *heard = Heard::of(&packet);
                 Answer::Break(Added::whole(packet))
             }
-            _ => {
+            Course::Jump => {
                 heard.kept = Some(packet.sequence.wrapping_add(1));
-                Answer::Jump { distance: signed }
+                Answer::Jump {
+                    distance: signed(distance),
+                }
             }
         }
     }

@@ -3,7 +3,7 @@
 
 use std::iter::repeat_n;
 
-use crate::receiver::Answer;
+use crate::receiver::{Added, Answer};
 
 /// The greatest age in ms at which a block is still repeated.
 const OLDEST: u64 = 16_383;
@@ -22,13 +22,18 @@ pub struct Sent {
     pub block: Vec<u8>,
 }
 
-/// Adds what an answer gives: its loss in marks, then its blocks.
+/// Adds what an answer gives.
 pub fn add(record: &mut Vec<Entry>, answer: &Answer) {
     if let Some(added) = answer.added() {
-        record.extend(repeat_n(Entry::Mark, added.loss.into()));
-        let blocks = added.blocks().into_iter();
-        record.extend(blocks.map(|block| Entry::Block(block.to_vec())));
+        give(record, added);
     }
+}
+
+/// Adds what is given of a packet: its loss in marks, then its blocks.
+pub fn give(record: &mut Vec<Entry>, added: &Added) {
+    record.extend(repeat_n(Entry::Mark, added.loss.into()));
+    let blocks = added.blocks().into_iter();
+    record.extend(blocks.map(|block| Entry::Block(block.to_vec())));
 }
 
 /// How many older blocks packet `k` carries: the longest run of the last
@@ -55,7 +60,8 @@ pub fn in_window(newest: Option<usize>, k: usize) -> bool {
 /// The record after the packets `accepted` of this sender, in their order:
 /// one entry for each block from the oldest in the first packet to the
 /// primary of the newest. It is the block where a packet carries it that
-/// was the newest on its arrival, otherwise a mark.
+/// was the newest on its arrival, otherwise a mark. Of a receiver that holds
+/// packets, give those handed out, in that order.
 pub fn expected(sent: &[Sent], level: usize, accepted: &[usize]) -> Vec<Entry> {
     let (Some(&first), Some(&newest)) = (accepted.first(), accepted.iter().max()) else {
         return vec![];

@@ -45,5 +45,8 @@ pub const UTF8: u8 = 21;
 /// Older blocks' time offsets do not fall to 1 or more.
 pub const BLOCK_AGES: u8 = 22;
 
+/// The packet lent as held is refused or has another number.
+pub const HELD: u8 = 27;
+
 /// Every number a reader can give.
 pub const ALL: [u8; 14] = [3, 10, 11, 12, 13, 14, 15, 16, 17, 18, 19, 20, 21, 22];

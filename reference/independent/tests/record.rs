@@ -1,11 +1,13 @@
 //! Demand 3: the record of a line held against the sender's blocks.
 
-use independent::channel::{self, Call, Delivery, Line, State};
-use independent::random::Random;
+mod lines;
+
+use independent::channel::{Delivery, Line, State};
+use independent::read;
 use independent::receiver::{Answer, Receiver};
 use independent::record::{add, expected, in_window, run, Entry, Sent, AHEAD, BEHIND};
 use independent::sender::Settings;
-use independent::{maker, read};
+use lines::{another_makers, long_line, ours, Make};
 
 const LISTS: u64 = 2000;
 
@@ -108,28 +110,13 @@ fn receive(settings: &Settings, line: &Line, deliveries: &[Delivery], met: &mut 
     assert_eq!(record, expected(&line.sent, level, &accepted));
 }
 
-fn random_lines(level: usize, line: fn(&mut Random, &Settings) -> Line) -> Met {
+fn random_lines(level: usize, make: Make) -> Met {
     let mut met = Met::default();
-    for seed in 0..LISTS {
-        let mut random = Random::new(seed << 8 | level as u64);
-        let settings = channel::settings(&mut random, level);
-        let line = line(&mut random, &settings);
-        let deliveries = channel::deliveries(&mut random, &line.packets);
-        receive(&settings, &line, &deliveries, &mut met);
-    }
+    lines::random_lines(LISTS, level, make, |_, settings, line, deliveries| {
+        receive(settings, line, deliveries, &mut met);
+    });
     met.check(level);
     met
-}
-
-fn ours(random: &mut Random, settings: &Settings) -> Line {
-    let count = random.pick(&[10, 100, 200]);
-    let calls = channel::calls(random, settings.buffering, count);
-    channel::send(*settings, &calls)
-}
-
-fn another_makers(random: &mut Random, settings: &Settings) -> Line {
-    let count = random.pick(&[0, 1, 5, 20, 100]);
-    maker::line(random, settings, count)
 }
 
 /// None of its packets is refused for its ages.
@@ -149,31 +136,13 @@ fn random_lines_of_another_makers_sender() {
     }
 }
 
-/// A line of 150,000 packets, more than two rounds of the numbers, heard in
-/// strides up to the window's ends. So far apart, no text is held back.
 #[test]
 fn long_lines_to_the_ends_of_the_window() {
     for level in 0..=4 {
-        let mut random = Random::new(level as u64);
-        let settings = Settings {
-            buffering: 1,
-            rate: 100,
-            ..channel::settings(&mut random, level)
-        };
-        let mut calls = vec![];
-        for clock in (0..150_000).map(|k| 11 * k) {
-            let text = vec![b'a' + (clock % 26) as u8];
-            calls.push(Call::Offer { clock, text });
-            let space = 900;
-            calls.push(Call::Clock { clock, space });
-        }
-        let line = channel::send(settings, &calls);
-        assert_eq!(line.packets.len(), 150_000);
         let mut met = Met::default();
-        for _ in 0..20 {
-            let deliveries = channel::strides(&mut random, &line.packets);
-            receive(&settings, &line, &deliveries, &mut met);
-        }
+        long_line(level, |_, settings, line, deliveries| {
+            receive(settings, line, deliveries, &mut met);
+        });
         let ends = [met.farthest_ahead, met.farthest_behind, met.wrapped];
         assert!(ends.iter().all(|&count| count > 10), "{met:?}");
     }

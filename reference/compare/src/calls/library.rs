@@ -3,11 +3,12 @@
 
 use std::hint::black_box;
 
+use super::answers::Stepped;
 use super::held::Held;
 use super::log::Log;
 use crate::patterns::{filled, guarded, Lent};
 use crate::random::Random;
-use stewpigeon::lent::{self, Guarded, Receiver, Sender, Settings, Step, Texts};
+use stewpigeon::lent::{self, Guarded, Receiver, Record, Sender, Settings, Step, Texts};
 
 /// What a call answered; or which bytes changed that must stay.
 pub type Answered<T> = Result<T, &'static str>;
@@ -19,36 +20,64 @@ fn demand(holds: bool, otherwise: &'static str) -> Answered<()> {
     }
 }
 
-pub fn receiver_open(random: &mut Random, t140: u8, red: u8) -> Answered<(u8, Receiver)> {
-    let mut receiver = filled(random);
-    let before = receiver.clone();
-    let number = lent::receiver_open(&mut receiver, t140, red);
-    demand(
-        receiver.around() == before.around(),
-        "bytes around the receiver changed",
-    )?;
-    Ok((number, receiver.value()))
-}
-
-/// A step, or the refusal's number.
-pub fn step(
+/// Opens a receiver in a record of any values, and gives the number answered.
+pub fn open<R: Record>(
     random: &mut Random,
-    receiver: &mut Receiver,
-    packet: &[u8],
-) -> Answered<Result<Step, u8>> {
-    let mut record = guarded(random, *receiver);
-    let mut step = filled::<Step>(random);
-    let packet = Lent::new(random, packet);
-    let mut before = (record.clone(), step.clone(), packet.clone());
-    let number = lent::receiver_step(&mut record, packet.bytes(), &mut step);
+    receiver: &mut R,
+    call: impl FnOnce(&mut Guarded<R>) -> u8,
+) -> Answered<u8> {
+    let mut record = filled(random);
+    let before = record.clone();
+    let number = call(&mut record);
     *receiver = record.value();
     demand(
-        *black_box(&packet) == before.2,
-        "bytes of the packet or around it changed",
+        record.around() == before.around(),
+        "bytes around the receiver changed",
     )?;
-    let same_record = record.bytes() == before.0.bytes();
+    Ok(number)
+}
+
+pub fn receiver_open(
+    random: &mut Random,
+    receiver: &mut Receiver,
+    t140: u8,
+    red: u8,
+) -> Answered<u8> {
+    open(random, receiver, |record| {
+        lent::receiver_open(record, t140, red)
+    })
+}
+
+/// A receiver's record before an accepted call and after it, and the step.
+pub struct Accepted<R, S> {
+    before: Guarded<R>,
+    after: Guarded<R>,
+    pub step: S,
+}
+
+/// Lends a receiver's record, packets and a step to a call: what it accepted,
+/// or the refusal's number.
+pub fn receive<R: Record, S: Record, const N: usize>(
+    random: &mut Random,
+    receiver: &mut R,
+    packets: [&[u8]; N],
+    call: impl FnOnce(&mut Guarded<R>, [&[u8]; N], &mut Guarded<S>) -> u8,
+) -> Answered<Result<Accepted<R, S>, u8>> {
+    let mut record = guarded(random, *receiver);
+    let mut step = filled::<S>(random);
+    let packets = packets.map(|packet| Lent::new(random, packet));
+    let before = (record.clone(), step.clone(), packets.clone());
+    let number = call(&mut record, packets.each_ref().map(Lent::bytes), &mut step);
+    *receiver = record.value();
+    demand(
+        *black_box(&packets) == before.2,
+        "bytes of a packet or around it changed",
+    )?;
     if number != 0 {
-        demand(same_record, "a refusal changed bytes of the receiver")?;
+        demand(
+            record.bytes() == before.0.bytes(),
+            "a refusal changed bytes of the receiver",
+        )?;
         demand(
             step.bytes() == before.1.bytes(),
             "a refusal changed bytes of the step",
@@ -59,19 +88,41 @@ pub fn step(
         record.around() == before.0.around() && step.around() == before.1.around(),
         "bytes around the receiver or the step changed",
     )?;
-    let step = step.value();
+    Ok(Ok(Accepted {
+        before: before.0,
+        after: record,
+        step: step.value(),
+    }))
+}
+
+/// A step of the receiver that does not hold.
+pub fn step(random: &mut Random, receiver: &mut Receiver, packet: &[u8]) -> Answered<Stepped> {
+    let answer = receive(random, receiver, [packet], |receiver, [packet], step| {
+        lent::receiver_step(receiver, packet, step)
+    })?;
+    let Accepted {
+        mut before,
+        after,
+        step,
+    } = match answer {
+        Ok(accepted) => accepted,
+        Err(number) => return Ok(Err(number)),
+    };
     if step.course == Step::LATE {
-        demand(same_record, "a late packet changed bytes of the receiver")?;
+        demand(
+            after.bytes() == before.bytes(),
+            "a late packet changed bytes of the receiver",
+        )?;
     }
     if step.course == Step::JUMP {
-        before.0.set(Receiver {
+        before.set(Receiver {
             has_source: receiver.has_source,
             has_kept: receiver.has_kept,
             kept: receiver.kept,
-            ..before.0.value()
+            ..before.value()
         });
         demand(
-            record.bytes() == before.0.bytes(),
+            after.bytes() == before.bytes(),
             "a jump wrote more to the receiver than the number kept",
         )?;
     }

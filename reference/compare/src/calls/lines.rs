@@ -1,12 +1,11 @@
 //! Whole lines: packets of a sender lost, copied and delayed on their way to
-//! the library's receiver, and its record held against demand 3.
+//! the library's receivers, and their records held against demand 3.
 
 use std::iter::repeat_n;
 
-use super::receivers;
-use super::senders;
 use super::space::Space;
 use super::tally::{Call, Tally};
+use super::{holding, receivers, senders};
 use crate::random::Random;
 use independent::channel::{self, Delivery, Line};
 use independent::record::{expected, in_window, Entry, Sent, AHEAD, BEHIND};
@@ -16,7 +15,7 @@ use stewpigeon::lent::Step;
 
 /// Adds what the library's step gives: its loss in marks, then its blocks,
 /// whose places are read again. Inside the window there are no jumps.
-fn add(
+pub fn add(
     record: &mut Vec<Entry>,
     settings: &Settings,
     packet: &[u8],
@@ -41,7 +40,7 @@ fn add(
 }
 
 /// The first place at which two records differ.
-fn difference(ours: &[Entry], wanted: &[Entry]) -> String {
+pub fn difference(ours: &[Entry], wanted: &[Entry]) -> String {
     let same = ours.iter().zip(wanted).take_while(|(a, b)| a == b).count();
     format!(
         "the record differs from demand 3's at entry {same}\n\
@@ -53,19 +52,48 @@ fn difference(ours: &[Entry], wanted: &[Entry]) -> String {
     )
 }
 
-/// Gives the deliveries to a receiver and checks its record.
+/// A line, and its packets as they arrive.
+pub struct Transmission<'a> {
+    pub settings: &'a Settings,
+    pub line: &'a Line,
+    pub deliveries: Vec<Delivery>,
+}
+
+impl Transmission<'_> {
+    /// The record is the one due by these packets of the line, in this order.
+    pub fn check(&self, record: &[Entry], accepted: &[usize]) -> Result<(), String> {
+        let wanted = expected(&self.line.sent, self.settings.level, accepted);
+        if record == wanted {
+            return Ok(());
+        }
+        let details = difference(record, &wanted);
+        let first = &accepted[..accepted.len().min(200)];
+        let settings = self.settings;
+        Err(format!(
+            "{settings:?}\nthe first accepted {first:?}\n{details}"
+        ))
+    }
+}
+
+/// How many marks a record has.
+pub fn marks(record: &[Entry]) -> usize {
+    let marks = record.iter().filter(|entry| **entry == Entry::Mark);
+    marks.count()
+}
+
+/// Gives the deliveries to a receiver that does not hold, and checks its
+/// record.
 fn receive(
     random: &mut Random,
-    settings: &Settings,
-    line: &Line,
-    deliveries: &[Delivery],
+    transmission: &Transmission,
     tally: &mut Tally,
 ) -> Result<(), String> {
+    let settings = transmission.settings;
     let mut pair = receivers::Pair::open(random, settings.t140, settings.red, tally)?;
     let mut record = vec![];
     let mut accepted: Vec<usize> = vec![];
     let mut newest = None;
-    for delivery in deliveries {
+    for delivery in &transmission.deliveries {
         let k = delivery.number;
         let packet = &delivery.packet;
         let Ok(step) = pair.step(random, packet, tally)? else {
@@ -82,19 +110,32 @@ fn receive(
         newest = newest.max(Some(k));
         accepted.push(k);
     }
-    let wanted = expected(&line.sent, settings.level, &accepted);
-    if record != wanted {
-        let details = difference(&record, &wanted);
-        accepted.truncate(200);
-        return Err(format!(
-            "{settings:?}\nthe first accepted {accepted:?}\n{details}"
-        ));
-    }
-    let marks = record.iter().filter(|entry| **entry == Entry::Mark);
-    tally.meet("marks in records of lines", marks.count());
+    transmission.check(&record, &accepted)?;
+    tally.meet("marks in records of lines", marks(&record));
     tally.meet("entries in records of lines", record.len());
     tally.meet("lines of which nothing was accepted", accepted.is_empty());
     Ok(())
+}
+
+/// The packets of a line as they arrive.
+type Way = fn(&mut Random, &[Vec<u8>]) -> Vec<Delivery>;
+
+/// Sends a line over a way to receivers of both kinds.
+fn transmit(
+    random: &mut Random,
+    settings: &Settings,
+    line: &Line,
+    way: Way,
+    tally: &mut Tally,
+) -> Result<(), String> {
+    let transmission = Transmission {
+        settings,
+        line,
+        deliveries: way(random, &line.packets),
+    };
+    receive(random, &transmission, tally)?;
+    holding::receive(random, &transmission, tally)
+        .map_err(|difference| format!("to a receiver that holds: {difference}"))
 }
 
 /// Gives the calls to the library's sender and keeps what it sends.
@@ -131,65 +172,51 @@ fn send(
     Ok(line)
 }
 
-/// Random calls, then a random way for the packets sent.
-pub fn ours(random: &mut Random, calls: usize, tally: &mut Tally) -> Result<(), String> {
+type Make = fn(&mut Random, &Settings, &mut Tally) -> Result<Line, String>;
+
+/// Lines of a sender, each over a random way, until so many packets came.
+fn lines(random: &mut Random, calls: usize, tally: &mut Tally, make: Make) -> Result<(), String> {
     let start = tally.calls(Call::Step);
     while tally.calls(Call::Step) < start + calls {
         let level = random.below(5);
         let settings = channel::settings(random, level);
-        let count = random.pick(&[10, 100, 300]);
-        let calls = channel::calls(random, settings.buffering, count);
-        let line = send(random, &settings, &calls, Space::any, tally)?;
-        let deliveries = channel::deliveries(random, &line.packets);
-        receive(random, &settings, &line, &deliveries, tally)?;
-        tally.meet("lines of our sender", true);
+        let line = make(random, &settings, tally)?;
+        transmit(random, &settings, &line, channel::deliveries, tally)?;
     }
     Ok(())
 }
 
+pub fn ours(random: &mut Random, calls: usize, tally: &mut Tally) -> Result<(), String> {
+    lines(random, calls, tally, |random, settings, tally| {
+        let count = random.pick(&[10, 100, 300]);
+        let calls = channel::calls(random, settings.buffering, count);
+        tally.meet("lines of our sender", true);
+        send(random, settings, &calls, Space::any, tally)
+    })
+}
+
 pub fn another_makers(random: &mut Random, calls: usize, tally: &mut Tally) -> Result<(), String> {
-    let start = tally.calls(Call::Step);
-    while tally.calls(Call::Step) < start + calls {
-        let level = random.below(5);
-        let settings = channel::settings(random, level);
+    lines(random, calls, tally, |random, settings, tally| {
         let count = random.pick(&[0, 1, 5, 20, 100]);
-        let line = maker::line(random, &settings, count);
-        let deliveries = channel::deliveries(random, &line.packets);
-        receive(random, &settings, &line, &deliveries, tally)?;
         tally.meet("lines of another maker's sender", true);
-    }
-    Ok(())
+        Ok(maker::line(random, settings, count))
+    })
 }
 
 /// How many packets a long line has: more than two rounds of the numbers.
 const LONG: u64 = 140_000;
-
-/// How many ms they are apart, so that each takes the text that waits.
-const APART: u64 = 11;
 
 /// Lines of our sender that pass 65,535 several times: heard in strides up to
 /// the window's ends, and with losses, copies and delays all along.
 pub fn long(random: &mut Random, calls: usize, tally: &mut Tally) -> Result<(), String> {
     let packets = LONG.min(2 * calls as u64);
     for level in 0..=4 {
-        let settings = Settings {
-            buffering: 1,
-            rate: 100,
-            ..channel::settings(random, level)
-        };
-        let mut calls = vec![];
-        for clock in (0..packets).map(|k| APART * k) {
-            let text = vec![b'a' + (clock % 26) as u8];
-            calls.push(channel::Call::Offer { clock, text });
-            calls.push(channel::Call::Clock { clock, space: 0 });
-        }
+        let (settings, calls) = channel::lettered(random, level, packets);
         let line = send(random, &settings, &calls, Space::enough, tally)?;
         for _ in 0..10 {
-            let deliveries = channel::strides(random, &line.packets);
-            receive(random, &settings, &line, &deliveries, tally)?;
+            transmit(random, &settings, &line, channel::strides, tally)?;
         }
-        let deliveries = channel::deliveries(random, &line.packets);
-        receive(random, &settings, &line, &deliveries, tally)?;
+        transmit(random, &settings, &line, channel::deliveries, tally)?;
         tally.meet("long lines of our sender", true);
     }
     Ok(())

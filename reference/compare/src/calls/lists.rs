@@ -1,9 +1,8 @@
 //! Random lists of calls.
 
-use super::receivers;
-use super::senders;
 use super::space::Space;
 use super::tally::{Answer, Call, Tally};
+use super::{holding, receivers, senders};
 use crate::damage::mutate;
 use crate::patterns::Lent;
 use crate::plan::{Plan, RED, T140};
@@ -13,16 +12,18 @@ use independent::receiver::write_marks;
 use independent::sender::Settings;
 use stewpigeon::lent;
 
-/// Every pair of bytes as payload types.
+/// Every pair of bytes as payload types, to receivers of both kinds.
 pub fn receiver_openings(
     random: &mut Random,
     calls: usize,
     tally: &mut Tally,
 ) -> Result<(), String> {
-    while tally.calls(Call::ReceiverOpen) < calls {
+    let kinds = [Call::ReceiverOpen, Call::HoldingOpen];
+    while kinds.iter().any(|kind| tally.calls(*kind) < calls) {
         for t140 in 0..=255 {
             for red in 0..=255 {
                 receivers::Pair::open(random, t140, red, tally)?;
+                holding::Pair::open(random, t140, red, tally)?;
             }
         }
     }
@@ -101,14 +102,18 @@ pub fn marks(random: &mut Random, calls: usize, tally: &mut Tally) -> Result<(),
     Ok(())
 }
 
-/// A number for a receiver: near the next in order, at the window's ends, far
-/// from it, or next to the last jump's.
-fn sequence(random: &mut Random, pair: &receivers::Pair) -> Option<u16> {
-    let expected = pair.expected()?;
-    if let Some(jump) = pair.jump().filter(|_| random.once_in(3)) {
-        let on = random.pick(&[0, 1, 1, 1, 2, u16::MAX]);
-        return Some(jump.wrapping_add(on));
+/// Payload types, mostly those of the packets.
+pub fn payload_types(random: &mut Random) -> (u8, u8) {
+    match random.below(20) {
+        0 => (RED, T140),
+        1 => (T140, random.pick(&[T140, 95, 128])),
+        _ => (T140, RED),
     }
+}
+
+/// A number near the next in order, at the window's ends, far from it, or
+/// 65,535.
+pub fn number_near(random: &mut Random, expected: u16) -> u16 {
     let any = random.number() as u16;
     let near = random.below(8) as u16;
     let ahead = random.within(2_996, 3_001) as u16;
@@ -116,11 +121,22 @@ fn sequence(random: &mut Random, pair: &receivers::Pair) -> Option<u16> {
     let far = random.pick(&[32_766, 32_767, 32_768, 32_769, 65_534, 65_535]);
     let to_65_535 = 65_535_u16.wrapping_sub(expected);
     let distance = random.pick(&[0, 0, 0, near, near, ahead, behind, far, any, to_65_535]);
-    Some(expected.wrapping_add(distance))
+    expected.wrapping_add(distance)
+}
+
+/// A number for a receiver: next to the last jump's, or about the next in
+/// order.
+fn sequence(random: &mut Random, pair: &receivers::Pair) -> Option<u16> {
+    let expected = pair.expected()?;
+    if let Some(jump) = pair.jump().filter(|_| random.once_in(3)) {
+        let on = random.pick(&[0, 1, 1, 1, 2, u16::MAX]);
+        return Some(jump.wrapping_add(on));
+    }
+    Some(number_near(random, expected))
 }
 
 /// A packet of this number.
-fn packet(random: &mut Random, source: u32, sequence: u16) -> Vec<u8> {
+pub fn packet(random: &mut Random, source: u32, sequence: u16) -> Vec<u8> {
     let mut plan = match random.below(8) {
         0 => Plan::t140(random),
         1 => Plan::good(random),
@@ -146,11 +162,7 @@ fn packet(random: &mut Random, source: u32, sequence: u16) -> Vec<u8> {
 pub fn packets(random: &mut Random, calls: usize, tally: &mut Tally) -> Result<(), String> {
     let start = tally.calls(Call::Step);
     while tally.calls(Call::Step) < start + calls {
-        let (t140, red) = match random.below(20) {
-            0 => (RED, T140),
-            1 => (T140, random.pick(&[T140, 95, 128])),
-            _ => (T140, RED),
-        };
+        let (t140, red) = payload_types(random);
         let mut pair = receivers::Pair::open(random, t140, red, tally)?;
         let source = random.number() as u32;
         let first = random.number() as u16;

@@ -1,17 +1,20 @@
-//! The calls of receiver, mark writer and sender, given to the library and to
-//! the independent program.
+//! The calls of both receivers, mark writer and sender, given to the library
+//! and to the independent program.
 
+pub mod answers;
 mod any_state;
 mod expected;
 mod held;
+mod holding;
 mod library;
 mod lines;
 mod lists;
 mod log;
 mod named;
 mod rates;
+mod receiver_rules;
 mod receivers;
-mod rules;
+mod sender_rules;
 mod senders;
 mod space;
 pub mod tally;
@@ -19,12 +22,14 @@ mod trail;
 
 pub use expected::library_settings;
 
+use std::fmt::Debug;
+
 use crate::random::Random;
 use tally::Tally;
 
 type Part = fn(&mut Random, usize, &mut Tally) -> Result<(), String>;
 
-const PARTS: [(&str, Part); 10] = [
+const PARTS: [(&str, Part); 12] = [
     ("receiver openings", lists::receiver_openings),
     ("sender openings", lists::sender_openings),
     ("loss marks", lists::marks),
@@ -35,7 +40,17 @@ const PARTS: [(&str, Part); 10] = [
     ("lines of another maker's sender", lines::another_makers),
     ("long lines", lines::long),
     ("any state", any_state::run),
+    ("lists of packets and waits", holding::calls),
+    ("rising numbers", holding::rising),
 ];
+
+/// What was answered is what is due.
+fn same<T: PartialEq + Debug>(answer: T, due: T) -> Result<(), String> {
+    match answer == due {
+        true => Ok(()),
+        false => Err(format!("it is {answer:?}, and {due:?} is due")),
+    }
+}
 
 /// Compares on the named cases and on at least `calls` calls of each kind, or
 /// says where the first difference is.

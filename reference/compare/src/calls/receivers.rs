@@ -1,12 +1,13 @@
 //! A receiver of the library beside an independent one.
 
+use super::answers::{self, compared, record, Stepped};
 use super::library;
 use super::tally::{Answer, Call, Tally};
 use super::trail::Trail;
 use crate::check::hex;
 use crate::random::Random;
-use independent::receiver::{self, Added, Receiver};
-use stewpigeon::lent;
+use independent::receiver::Receiver;
+use stewpigeon::lent::{self, Step};
 
 pub struct Pair {
     library: lent::Receiver,
@@ -14,80 +15,23 @@ pub struct Pair {
     trail: Trail,
 }
 
-/// What both answered to a packet.
-pub type Stepped = Result<lent::Step, u8>;
-
-/// The record of an independent receiver.
-fn record(receiver: &Receiver) -> lent::Receiver {
-    lent::Receiver {
-        t140: receiver.t140(),
-        red: receiver.red(),
-        has_source: receiver.source().is_some().into(),
-        has_kept: receiver.kept().is_some().into(),
-        source: receiver.source().unwrap_or(0),
-        expected: receiver.expected().unwrap_or(0),
-        kept: receiver.kept().unwrap_or(0),
-    }
-}
-
-/// The library's form of what an independent receiver adds to the record.
-fn given(course: u8, added: &Added) -> lent::Step {
-    let (from, to) = added.place();
-    lent::Step {
-        course,
-        loss: added.loss,
-        distance: added.distance as i16,
-        older: added.older(),
-        given: added.wanted + 1,
-        from,
-        to,
-    }
-}
-
-/// The library's form of an independent answer.
-fn answered(answer: &receiver::Answer) -> Stepped {
-    let nothing = |course, distance: i32| lent::Step {
-        course,
-        distance: distance as i16,
-        ..lent::Step::ZERO
-    };
-    match answer {
-        receiver::Answer::Refused(number) => Err(*number),
-        receiver::Answer::Late { distance } => Ok(nothing(lent::Step::LATE, *distance)),
-        receiver::Answer::Jump { distance } => Ok(nothing(lent::Step::JUMP, *distance)),
-        receiver::Answer::Forward(added) => Ok(given(lent::Step::FORWARD, added)),
-        receiver::Answer::Break(added) => Ok(given(lent::Step::BREAK, added)),
-    }
-}
-
 impl Pair {
     /// Opens both; where they refuse, both are all zeros.
     pub fn open(random: &mut Random, t140: u8, red: u8, tally: &mut Tally) -> Result<Pair, String> {
-        let call = || format!("opening a receiver, T140 {t140} RED {red}");
-        let (number, library) = library::receiver_open(random, t140, red)
-            .map_err(|what| format!("{}: {what}", call()))?;
-        let opened = Receiver::open(t140, red);
-        let wanted = *opened.as_ref().err().unwrap_or(&0);
-        let pair = Pair {
-            library,
-            independent: opened.unwrap_or_else(|_| Receiver::zero()),
-            trail: Trail::default(),
+        let mut library = lent::Receiver::ZERO;
+        let answer = library::receiver_open(random, &mut library, t140, red);
+        let (due, independent) = match Receiver::open(t140, red) {
+            Ok(receiver) => (0, receiver),
+            Err(number) => (number, Receiver::zero()),
         };
-        if number != wanted || !pair.same() {
-            return Err(format!(
-                "{}: {number}, {wanted} is due\n{}",
-                call(),
-                pair.states()
-            ));
-        }
-        tally.add(
-            Call::ReceiverOpen,
-            match number {
-                0 => Answer::Done("opened"),
-                number => Answer::Refused(number),
-            },
-        );
-        Ok(pair)
+        let number = compared(answer, due, &library, &record(&independent))
+            .map_err(|what| format!("opening a receiver, T140 {t140} RED {red}: {what}"))?;
+        tally.add(Call::ReceiverOpen, Answer::opened(number));
+        Ok(Pair {
+            library,
+            independent,
+            trail: Trail::default(),
+        })
     }
 
     pub fn expected(&self) -> Option<u16> {
@@ -104,18 +48,6 @@ impl Pair {
         self.library
     }
 
-    fn same(&self) -> bool {
-        self.library == record(&self.independent)
-    }
-
-    fn states(&self) -> String {
-        format!(
-            "library:     {:?}\nindependent: {:?}",
-            self.library,
-            record(&self.independent)
-        )
-    }
-
     /// Gives a packet to both.
     pub fn step(
         &mut self,
@@ -125,24 +57,15 @@ impl Pair {
     ) -> Result<Stepped, String> {
         let kept = self.independent.kept();
         let answer = library::step(random, &mut self.library, packet);
-        let wanted = answered(&self.independent.step(packet));
-        let what = match answer {
-            Err(what) => what,
-            Ok(answer) if answer != wanted => "the answers differ",
-            Ok(_) if !self.same() => "the receivers differ afterwards",
-            Ok(answer) => {
-                meet(&answer, tally);
-                self.trail.add(kept, packet, &answer, tally);
-                return Ok(answer);
-            }
-        };
-        Err(format!(
-            "a step: {what}\npacket ({} bytes): {}\n\
-             library:     {answer:?}\nindependent: {wanted:?}\nafterwards\n{}",
-            packet.len(),
-            hex(packet),
-            self.states()
-        ))
+        let due = answers::step(&self.independent.step(packet));
+        let answer =
+            compared(answer, due, &self.library, &record(&self.independent)).map_err(|what| {
+                let (length, packet) = (packet.len(), hex(packet));
+                format!("a step\npacket ({length} bytes): {packet}\n{what}")
+            })?;
+        meet(&answer, tally);
+        self.trail.add(kept, packet, &answer, tally);
+        Ok(answer)
     }
 }
 
@@ -156,17 +79,17 @@ pub fn kind(answer: &Stepped) -> Answer {
 
 fn course(course: u8) -> &'static str {
     match course {
-        lent::Step::FORWARD => "forward",
-        lent::Step::LATE => "late",
-        lent::Step::JUMP => "jump",
-        lent::Step::BREAK => "break",
+        Step::FORWARD => "forward",
+        Step::LATE => "late",
+        Step::JUMP => "jump",
+        Step::BREAK => "break",
         _ => unreachable!("course {course} differs from every due one"),
     }
 }
 
 fn meet(answer: &Stepped, tally: &mut Tally) {
     tally.add(Call::Step, kind(answer));
-    let step = answer.unwrap_or(lent::Step::ZERO);
+    let step = answer.unwrap_or(Step::ZERO);
     tally.meet("steps with loss 2,998", step.loss == 2_998);
     tally.meet("steps at distance 2,998", step.distance == 2_998);
     tally.meet("steps at distance 2,999", step.distance == 2_999);

@@ -55,13 +55,7 @@ impl Pair {
                 pair.states()
             ));
         }
-        tally.add(
-            Call::SenderOpen,
-            match number {
-                0 => Answer::Done("opened"),
-                number => Answer::Refused(number),
-            },
-        );
+        tally.add(Call::SenderOpen, Answer::opened(number));
         // What lies in the texts and is no text of the sender does not count,
         // and stays.
         if !refused && random.once_in(2) {

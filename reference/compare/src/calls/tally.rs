@@ -3,6 +3,7 @@
 use std::borrow::Cow;
 use std::collections::{BTreeMap, BTreeSet};
 use std::fmt::{self, Display, Formatter};
+use std::ops::RangeInclusive;
 
 use crate::say;
 use independent::refusal;
@@ -15,6 +16,9 @@ pub enum Call {
     SenderOpen,
     Offer,
     Clock,
+    HoldingOpen,
+    HoldingStep,
+    HoldingWait,
 }
 
 /// A refusal's number, or what was answered instead.
@@ -27,13 +31,16 @@ pub enum Answer {
 use Answer::{Done, Refused};
 
 impl Call {
-    pub const ALL: [Call; 6] = [
+    pub const ALL: [Call; 9] = [
         Call::ReceiverOpen,
         Call::Step,
         Call::WriteMarks,
         Call::SenderOpen,
         Call::Offer,
         Call::Clock,
+        Call::HoldingOpen,
+        Call::HoldingStep,
+        Call::HoldingWait,
     ];
 
     fn name(self) -> &'static str {
@@ -44,18 +51,23 @@ impl Call {
             Call::SenderOpen => "sender open",
             Call::Offer => "sender offer",
             Call::Clock => "sender clock",
+            Call::HoldingOpen => "holding open",
+            Call::HoldingStep => "holding step",
+            Call::HoldingWait => "holding wait",
         }
     }
 
     /// Every answer of this call.
     fn answers(self) -> Vec<Answer> {
         let (done, refused): (&[_], &[_]) = match self {
-            Call::ReceiverOpen => (&["opened"], &[3]),
+            Call::ReceiverOpen | Call::HoldingOpen => (&["opened"], &[3]),
             Call::Step => (&["forward", "late", "jump", "break"], &refusal::ALL),
             Call::WriteMarks => (&["none", "some"], &[]),
             Call::SenderOpen => (&["opened"], &[1, 2, 3, 9]),
             Call::Offer => (&["taken"], &[1, 2, 3, 4, 5, 6, 7, 9]),
             Call::Clock => (&["sent", "quiet"], &[1, 2, 3, 5, 8, 9]),
+            Call::HoldingStep => (&HOLDING_STEPS, &HOLDING_REFUSALS),
+            Call::HoldingWait => (&HOLDING_WAITS, &[3, 5, 27]),
         };
         let done = done.iter().map(|name| Done(name));
         done.chain(refused.iter().map(|number| Refused(*number)))
@@ -63,34 +75,73 @@ impl Call {
     }
 }
 
-/// A flag in the record of a call, and the outcomes in which each of its
-/// values must be met.
-type Flag = (&'static str, &'static [&'static str]);
+/// What an accepted step of a receiver that holds answers: whose text is given
+/// and what is kept.
+const HOLDING_STEPS: [&str; 10] = [
+    "new",
+    "new-before-held",
+    "held-keep-new",
+    "held-again",
+    "keep-new",
+    "late",
+    "late-keep-held",
+    "jump",
+    "jump-keep-held",
+    "break",
+];
 
-/// The outcomes of a step.
-const STEPS: &[&str] = &["forward", "late", "jump", "break", "refused"];
+/// The same of a call without a packet.
+const HOLDING_WAITS: [&str; 3] = ["nothing", "keep-held", "held"];
+
+/// Every refusal of such a step.
+const HOLDING_REFUSALS: [u8; 16] = [3, 5, 27, 10, 11, 12, 13, 14, 15, 16, 17, 18, 19, 20, 21, 22];
 
 impl Call {
-    fn flags(self) -> &'static [Flag] {
+    /// The flags in the record of a call, each of whose values must be met in
+    /// every outcome that it can have.
+    fn flags(self) -> &'static [&'static str] {
         match self {
-            Call::Step => &[("has_source", STEPS), ("has_kept", STEPS)],
-            Call::Offer => &[("sent", &["taken", "refused"])],
-            Call::Clock => &[("sent", &["sent", "quiet", "refused"])],
-            Call::ReceiverOpen | Call::WriteMarks | Call::SenderOpen => &[],
+            Call::Step => &["has_source", "has_kept"],
+            Call::Offer | Call::Clock => &["sent"],
+            Call::HoldingStep | Call::HoldingWait => &["has_source", "has_kept", "has_held"],
+            Call::ReceiverOpen | Call::WriteMarks | Call::SenderOpen | Call::HoldingOpen => &[],
         }
+    }
+
+    fn outcomes(self) -> BTreeSet<&'static str> {
+        self.answers().into_iter().map(Answer::outcome).collect()
     }
 }
 
-/// The least value of a flag: the first accepted packet is forward, and there
-/// is no break without a number kept.
-fn least(flag: &str, outcome: &str) -> u8 {
-    match (flag, outcome) {
-        ("has_source", "late" | "jump" | "break") | ("has_kept", "break") => 1,
-        _ => 0,
+/// The values of a flag that an outcome can have: the first accepted packet is
+/// given, there is no break without a number kept, and whether a packet is
+/// held can mostly be told from what is kept.
+fn possible(flag: &str, outcome: &str) -> RangeInclusive<u8> {
+    let set = match (flag, outcome) {
+        (_, "refused") => return 0..=255,
+        ("has_source", "held-keep-new" | "held-again" | "keep-new" | "break") => true,
+        ("has_source", "late" | "late-keep-held" | "jump" | "jump-keep-held") => true,
+        ("has_kept", "break" | "held-again") => true,
+        ("has_held", "new" | "keep-new" | "late" | "jump" | "break" | "nothing") => false,
+        ("has_held", _) => true,
+        _ => return 0..=255,
+    };
+    if set {
+        1..=255
+    } else {
+        0..=0
     }
 }
 
 impl Answer {
+    /// An opening was answered with this number.
+    pub fn opened(number: u8) -> Answer {
+        match number {
+            0 => Done("opened"),
+            number => Refused(number),
+        }
+    }
+
     fn outcome(self) -> &'static str {
         match self {
             Done(name) => name,
@@ -167,11 +218,11 @@ impl Tally {
     fn missing_flags(&self) -> Vec<String> {
         let mut missing = vec![];
         for call in Call::ALL {
-            for (flag, outcomes) in call.flags() {
-                for outcome in *outcomes {
+            for flag in call.flags() {
+                for outcome in call.outcomes() {
                     let met = self.flags.get(&(call, flag, outcome));
                     let never = |value: &u8| !met.is_some_and(|met| met.contains(value));
-                    let never: Vec<u8> = (least(flag, outcome)..=255).filter(never).collect();
+                    let never: Vec<u8> = possible(flag, outcome).filter(never).collect();
                     if !never.is_empty() {
                         let call = call.name();
                         missing.push(format!("{call}, {outcome}: {flag} was never {never:?}"));

@@ -1,6 +1,6 @@
 //! What came to a receiver since its last jump.
 
-use super::receivers::Stepped;
+use super::answers::Stepped;
 use super::tally::Tally;
 use stewpigeon::lent::Step;
 

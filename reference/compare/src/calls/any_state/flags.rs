@@ -2,6 +2,7 @@
 //! true.
 
 use super::super::held::Held;
+use super::super::same;
 use super::super::tally::{Answer, Tally};
 use super::receivers::step_of;
 use super::senders::{clock_call_on, offer_to};
@@ -9,13 +10,6 @@ use super::{log, sender};
 use crate::plan::{Plan, RED, T140};
 use crate::random::Random;
 use stewpigeon::lent::{Pace, Progress, Receiver, Sender, Settings};
-
-fn same(answer: Answer, due: Answer) -> Result<(), String> {
-    match answer == due {
-        true => Ok(()),
-        false => Err(format!("answered {answer}, and {due} is due")),
-    }
-}
 
 /// Steps of a receiver with these flags that has heard the packet's source
 /// or, with 0 in the first, none.

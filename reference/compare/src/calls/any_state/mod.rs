@@ -2,10 +2,15 @@
 //! the same again on the same record, and touches nothing else.
 
 mod flags;
+mod holding;
+mod holding_flags;
 mod receivers;
 mod senders;
 
+use std::fmt::Debug;
+
 use super::held::{Held, LEVEL, ROOM, SLOTS};
+use super::library::Answered;
 use super::tally::Tally;
 use crate::random::Random;
 use stewpigeon::lent;
@@ -129,12 +134,39 @@ fn log(random: &mut Random, clock: u64) -> lent::Log {
     log
 }
 
+/// Makes a call twice on the same record: both answers and the records
+/// afterwards are those of the rules.
+fn twice<R, A>(
+    random: &mut Random,
+    before: R,
+    library: impl Fn(&mut Random, &mut R) -> Answered<A>,
+    rules: impl FnOnce(&mut R) -> A,
+) -> Result<A, String>
+where
+    R: Copy + PartialEq + Debug,
+    A: Copy + PartialEq + Debug,
+{
+    let [mut first, mut second, mut wanted] = [before; 3];
+    let answers = [library(random, &mut first), library(random, &mut second)];
+    let due = rules(&mut wanted);
+    if answers != [Ok(due); 2] || [first, second] != [wanted; 2] {
+        return Err(format!(
+            "before {before:?}\nlibrary: {answers:?}\nrules:   {due:?}\n\
+             afterwards\nlibrary: {first:?} and {second:?}\nrules:   {wanted:?}"
+        ));
+    }
+    Ok(due)
+}
+
 pub fn run(random: &mut Random, calls: usize, tally: &mut Tally) -> Result<(), String> {
     flags::run(random, tally)?;
+    holding_flags::run(random, tally)?;
     for _ in 0..calls / 4 {
         senders::offer(random, tally)?;
         senders::clock_call(random, tally)?;
         receivers::step(random, tally)?;
+        holding::step(random, tally)?;
+        holding::wait(random, tally)?;
     }
     Ok(())
 }

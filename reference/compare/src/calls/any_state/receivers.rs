@@ -1,9 +1,10 @@
 //! Steps of receivers of any values.
 
+use super::super::lists::number_near;
 use super::super::receivers::kind;
 use super::super::tally::{Answer, Call, Tally};
-use super::super::{library, rules};
-use super::flag;
+use super::super::{library, receiver_rules as rules};
+use super::{flag, twice};
 use crate::check::hex;
 use crate::plan::{Plan, RED, T140};
 use crate::random::Random;
@@ -16,17 +17,11 @@ pub fn step_of(
     packet: &[u8],
     tally: &mut Tally,
 ) -> Result<Answer, String> {
-    let [mut library, mut again, mut wanted] = [before; 3];
-    let answer = library::step(random, &mut library, packet);
-    let repeated = library::step(random, &mut again, packet);
-    let due = rules::step(&mut wanted, packet);
-    if (answer, repeated) != (Ok(due), Ok(due)) || (library, again) != (wanted, wanted) {
-        return Err(format!(
-            "a step of {before:?}\npacket {}\nlibrary: {answer:?} and {repeated:?}\n\
-             rules:   {due:?}\nafterwards\nlibrary: {library:?} and {again:?}\nrules:   {wanted:?}",
-            hex(packet),
-        ));
-    }
+    let library = |random: &mut Random, receiver: &mut _| library::step(random, receiver, packet);
+    let due = twice(random, before, library, |receiver| {
+        rules::step(receiver, packet)
+    })
+    .map_err(|what| format!("a step\npacket {}\n{what}", hex(packet)))?;
     let answer = kind(&due);
     tally.add(Call::Step, answer);
     tally.flag(Call::Step, "has_source", answer, before.has_source);
@@ -71,10 +66,9 @@ fn meet(before: &lent::Receiver, step: &lent::Step, sequence: u16, tally: &mut T
     }
 }
 
-pub fn step(random: &mut Random, tally: &mut Tally) -> Result<(), String> {
-    let count = random.below(5);
-    let mut plan = Plan::small_red(random, count);
-    let mut before = lent::Receiver {
+/// A receiver of any values, mostly such that packets of this source are read.
+pub fn receiver(random: &mut Random, source: u32) -> lent::Receiver {
+    let mut receiver = lent::Receiver {
         t140: random.byte(),
         red: random.byte(),
         has_source: flag(random),
@@ -84,20 +78,23 @@ pub fn step(random: &mut Random, tally: &mut Tally) -> Result<(), String> {
         kept: random.number() as u16,
     };
     if !random.once_in(8) {
-        (before.t140, before.red) = (T140, RED);
+        (receiver.t140, receiver.red) = (T140, RED);
     }
     if !random.once_in(8) {
-        before.source = plan.source;
+        receiver.source = source;
     }
+    receiver
+}
+
+pub fn step(random: &mut Random, tally: &mut Tally) -> Result<(), String> {
+    let count = random.below(5);
+    let mut plan = Plan::small_red(random, count);
+    let mut before = receiver(random, plan.source);
     if random.once_in(12) {
         plan.misdate(random);
     }
-    let near = random.below(8);
-    let ahead = random.within(2_996, 3_001);
-    let behind = 65_536 - random.within(1, 104);
     if random.once_in(2) {
-        let distance = random.pick(&[near, near, ahead, behind]);
-        plan.sequence = before.expected.wrapping_add(distance as u16);
+        plan.sequence = number_near(random, before.expected);
     }
     if random.once_in(2) {
         before.kept = plan.sequence;

@@ -4,7 +4,7 @@ use super::super::held::{Held, Meaning, LEVEL, ROOM, SLOTS};
 use super::super::log::{limit, times, Log};
 use super::super::senders::{clocked, offered};
 use super::super::tally::{Answer, Call, Tally};
-use super::super::{library, rules};
+use super::super::{library, sender_rules as rules};
 use super::{log, sender};
 use crate::check::hex;
 use crate::patterns::Lent;

@@ -1,13 +1,13 @@
 //! The scope paper's line tests and other cases by name, on the library and
 //! the independent program together, with what the paper says of them.
 
+mod holding;
 mod jumping;
 mod rates;
 mod receiving;
 mod sending;
 
-use std::fmt::Debug;
-
+use super::same;
 use super::tally::Tally;
 use crate::random::Random;
 
@@ -19,17 +19,10 @@ pub struct Given<'a> {
 
 type Case = (&'static str, fn(&mut Given<'_>) -> Result<(), String>);
 
-/// What was seen is what the paper says.
-fn same<T: PartialEq + Debug>(seen: T, said: T) -> Result<(), String> {
-    match seen == said {
-        true => Ok(()),
-        false => Err(format!("it is {seen:?}, and {said:?} is due")),
-    }
-}
-
 fn cases() -> impl Iterator<Item = &'static Case> {
     let receiving = receiving::CASES.iter().chain(&jumping::CASES);
-    receiving.chain(&sending::CASES).chain(&rates::CASES)
+    let sending = sending::CASES.iter().chain(&rates::CASES);
+    receiving.chain(sending).chain(&holding::CASES)
 }
 
 /// Runs all cases.

@@ -1,6 +1,7 @@
 //! Named cases of the receiver and the mark writer.
 
-use super::super::receivers::{Pair, Stepped};
+use super::super::answers::Stepped;
+use super::super::receivers::Pair;
 use super::{same, Case, Given};
 use crate::captures;
 use independent::packets::red;

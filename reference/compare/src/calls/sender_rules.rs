@@ -1,20 +1,15 @@
-//! The calls' rules on any sender and receiver, also on such as no call
-//! leaves: a time that has not come yet is no time ago, and in a flag 0 is
-//! false and all else true.
+//! The rules of the calls on any sender, also on such as no call leaves: a
+//! time that has not come yet is no time ago, and in a flag 0 is false and all
+//! else true.
 
 use std::iter::repeat_n;
 
 use super::held::{Block, Meaning, LEVEL, ROOM};
-use independent::read;
+use super::receiver_rules::types_bad;
 use stewpigeon::lent;
 
 const OLDEST: u64 = 16_383;
 const WINDOW: u64 = 10_000;
-
-fn types_bad(t140: u8, red: u8) -> bool {
-    let good = 96..=127;
-    !good.contains(&t140) || !good.contains(&red) || t140 == red
-}
 
 fn settings_number(settings: &lent::Settings) -> u8 {
     if settings.level > LEVEL {
@@ -193,46 +188,4 @@ pub fn clock(sender: &mut Meaning, times: &mut Vec<u64>, clock: u64, space: &mut
     times.splice(..0, repeat_n(clock, taken.characters));
     times.truncate(10 * sender.settings.rate);
     packet.len() as i64
-}
-
-/// A step of a receiver; without a source it is fresh, whatever else it
-/// holds, and without its flag the number kept is none.
-pub fn step(receiver: &mut lent::Receiver, packet: &[u8]) -> Result<lent::Step, u8> {
-    let has_source = receiver.has_source != 0;
-    let source = has_source.then_some(receiver.source);
-    let packet = read(source, receiver.t140, receiver.red, packet)?;
-    let older = packet.older().len();
-    let kept = receiver.has_kept != 0 && receiver.kept == packet.sequence;
-    let d = usize::from(packet.sequence.wrapping_sub(receiver.expected));
-    let next = packet.sequence.wrapping_add(1);
-    let nothing = |course| lent::Step {
-        course,
-        distance: d as i16,
-        ..lent::Step::ZERO
-    };
-    let (course, d, wanted) = match d {
-        _ if !has_source => (lent::Step::FORWARD, 0, older),
-        0..=2_998 => (lent::Step::FORWARD, d, d.min(older)),
-        65_436.. => return Ok(nothing(lent::Step::LATE)),
-        _ if kept => (lent::Step::BREAK, 0, older),
-        _ => {
-            (receiver.has_source, receiver.has_kept) = (1, 1);
-            receiver.kept = next;
-            return Ok(nothing(lent::Step::JUMP));
-        }
-    };
-    (receiver.has_source, receiver.has_kept) = (1, 0);
-    receiver.source = packet.source;
-    receiver.expected = next;
-    receiver.kept = 0;
-    let first = packet.older()[older - wanted..].first();
-    Ok(lent::Step {
-        course,
-        loss: d.saturating_sub(older) as u16,
-        distance: d as i16,
-        older,
-        given: wanted + 1,
-        from: first.map_or(packet.start, |first| first.start).into(),
-        to: packet.end.into(),
-    })
 }
