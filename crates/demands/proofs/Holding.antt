@@ -27,7 +27,7 @@ use Rattle.holding_spec.proofs.Refusals.{passed}
 use Rattle.holding_spec.proofs.ByStep as by
 use Rattle.holding_spec.proofs.ByStep.{arrived, goesBy}
 use Rattle.demands.specs.Ours.{ours}
-use Rattle.demands.specs.Holding.{NoneHeld, OneHeld, Behind, behindHeld, Holding}
+use Rattle.demands.specs.Holding.{NoneHeld, OneHeld, Behind, asksAgain, behindHeld, Holding}
 use Rattle.demands.proofs.Courses.{step-by}
 
 -- what a call adds and leaves, where it comes to x
@@ -208,13 +208,14 @@ module _ (s : HoldingReceiver) (t : ℕ) (lent p : List ℕ) where
       let k = keeps-held jump h refl refl in
       (k .0 ∙ ap (λ (x : Step). plain.entriesOf (s .receiver) p (x .answer)) (step-by (s .receiver) p jump (h .packet)), k .1)
 
-  before-break : Behind s t lent p break
+  before-break : (h : Behind s t lent p break)
       → Comes s t lent (some p) (plain.entriesOf (keepingNone (s .receiver)) lent (stepOf (keepingNone (s .receiver)) lent .answer)) (holdsNone (behindHeld ours (s .receiver) lent) t)
+      × (asksAgain (holdingStep s t lent (some p) .answer) ≡ true)
   before-break h =
-      leaves s t lent p break h neither true _
-      (by.behind-break (s .receiver) t p (h .packet .content) (s .arrival) lent (h .one .ahead .content) (h .packet .sourced) (h .other) (tested s t lent p break h wasBreak refl))
-      refl
-      (ap (λ (x : Receiver). holdsNone x t) (out-behind s t lent (h .one)))
+      let e = by.behind-break (s .receiver) t p (h .packet .content) (s .arrival) lent (h .one .ahead .content) (h .packet .sourced) (h .other) (tested s t lent p break h wasBreak refl) in (
+        leaves s t lent p break h neither true _ e refl (ap (λ (x : Receiver). holdsNone x t) (out-behind s t lent (h .one))),
+        ap (λ (x : HoldingStep). asksAgain (x .answer)) (arriving s t lent (h .one) p (h .packet .content) (h .packet .read) ∙ e),
+      )
 
 pub holding-claim : Holding ours
 holding-claim = record {
@@ -228,5 +229,5 @@ holding-claim = record {
   farther = farther;
   late-holds = late-holds;
   jump-holds = jump-holds;
-  before-break = before-break;
+  before-break = λ s t lent p h. let x = before-break s t lent p h in (x .0 .0, x .0 .1, x .1);
 }

@@ -149,6 +149,26 @@ clearing-fails c =
     let z : _≡_ {A = ℕ} 0 1 = ap (λ (x : HoldingReceiver). bit (x .receiver .hasKept)) (c .before-break awaiting 20 (one 8) (one 10001) h .1) in
     omega arith
 
+-- does not ask for the packet of a break again: its text is lost
+abbrev unasked : HoldingAnswer → HoldingAnswer
+unasked (refuses n) = refuses n
+unasked (waits z keep) = waits z keep
+unasked (isLate z keep) = isLate z keep
+unasked (isJump z keep) = isJump z keep
+unasked (isBreak g) = isBreak g
+unasked (gives of keep again g) = gives of keep false g
+
+abbrev unasking : Calls
+unasking s t lent p = record { receiver = holdingStep s t lent p .receiver; answer = unasked (holdingStep s t lent p .answer) }
+
+pub unasking-fails : Holding (withHolding unasking) → ⊥
+unfolding holdingStep stepOf reading headers
+unasking-fails c =
+    let h : Behind awaiting 20 (one 8) (one 10001) break =
+    record { one = record { passes = refl; is-one = refl; ahead = ahead }; packet = record { content = contentOf 10001 0x52; read = refl; sourced = refl; course-is = refl }; other = λ e. omega arith } in
+    let z : _≡_ {A = ℕ} 0 1 = ap bit (c .before-break awaiting 20 (one 8) (one 10001) h .2) in
+    omega arith
+
 -- a copy of the held packet sends it out
 abbrev doubling : Calls
 doubling s t lent none = holdingStep s t lent none

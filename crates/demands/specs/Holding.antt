@@ -3,7 +3,7 @@
 use Prim.Native.Nat.{ℕ, _-_, _<_, _≤_}
 use mathlib.Core.Path.{_≡_}
 use mathlib.Core.List.{List, []}
-use mathlib.Core.Bool.{true, false}
+use mathlib.Core.Bool.{Bool, true, false}
 use mathlib.Core.Logic.{_⊎_}
 use mathlib.Core.Option.{Option, none, some}
 use Rattle.base.specs.Checks.{numberBy}
@@ -14,6 +14,7 @@ use Rattle.receiver_spec.specs.State.{Receiver, withKept, keepingNone, readBy}
 use Rattle.receiver_spec.specs.Record as plain
 use Rattle.receiver_spec.specs.Answers.{isAccepted}
 use Rattle.holding_spec.specs.State.{HoldingReceiver, holdsNone, holdsOne, holdingChecks}
+use Rattle.holding_spec.specs.Answers.{HoldingAnswer, refuses, waits, isLate, isJump, isBreak, gives}
 use Rattle.holding_spec.specs.Record as held
 use Rattle.demands.specs.Line.{Line}
 use Rattle.demands.specs.Courses.{HasCourse}
@@ -34,6 +35,15 @@ pub record Behind (s : HoldingReceiver) (t : ℕ) (lent p : List ℕ) (v : Cours
   pub one : OneHeld s t lent
   pub packet : HasCourse (s .receiver) p v
   pub other : packet .content .sequence ≡ one .ahead .content .sequence → ⊥
+
+-- "asks for the same packet again"
+abbrev pub asksAgain : HoldingAnswer → Bool
+asksAgain (refuses n) = false
+asksAgain (waits z keep) = false
+asksAgain (isLate z keep) = false
+asksAgain (isJump z keep) = false
+asksAgain (isBreak g) = false
+asksAgain (gives of keep again g) = again
 
 module _ (l : Line) where
   -- what a call adds to the record, and what the line's step would
@@ -81,6 +91,7 @@ module _ (l : Line) where
         → (adds s t lent (some p) ≡ []) × (l .hold s t lent (some p) .receiver ≡ holdsOne (s .receiver) (s .held) (s .arrival) t)
     pub jump-holds : (s : HoldingReceiver) (t : ℕ) (lent p : List ℕ) → Behind s t lent p jump
         → (adds s t lent (some p) ≡ []) × (l .hold s t lent (some p) .receiver ≡ holdsOne (l .step (s .receiver) p .receiver) (s .held) (s .arrival) t)
-    -- a break sends it out, and leaves the kept number
+    -- a break sends it out, leaves the kept number and asks for the same packet again
     pub before-break : (s : HoldingReceiver) (t : ℕ) (lent p : List ℕ) → Behind s t lent p break
         → (adds s t lent (some p) ≡ stepAdds (keepingNone (s .receiver)) lent) × (l .hold s t lent (some p) .receiver ≡ holdsNone (behindHeld (s .receiver) lent) t)
+        × (asksAgain (l .hold s t lent (some p) .answer) ≡ true)
