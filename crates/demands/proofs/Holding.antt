@@ -22,10 +22,10 @@ use Rattle.holding_spec.specs.Answers.{Which, neither, held, new, HoldingStep}
 use Rattle.holding_spec.specs.Rule.{Arrived, waited, arrives}
 use Rattle.holding_spec.specs.Step.{arrivedAt, lentBack, arrivesRead, holdingStep}
 use Rattle.holding_spec.specs.Record.{entriesOf}
-use Rattle.holding_spec.specs.internal.ByStep.{told, wasForward, wasBreak}
+use Rattle.holding_spec.specs.internal.PlainStep.{told, wasForward, wasBreak}
 use Rattle.holding_spec.proofs.Refusals.{passed}
-use Rattle.holding_spec.proofs.ByStep as by
-use Rattle.holding_spec.proofs.ByStep.{arrived, goesBy}
+use Rattle.holding_spec.proofs.PlainStep as by
+use Rattle.holding_spec.proofs.PlainStep.{arrived, goesBy}
 use Rattle.demands.specs.Ours.{ours}
 use Rattle.demands.specs.Holding.{NoneHeld, OneHeld, Behind, asksAgain, behindHeld, Holding}
 use Rattle.demands.proofs.Courses.{step-by}

@@ -21,7 +21,7 @@ use Rattle.receiver_spec.proofs.CourseTests.{newest}
 use Rattle.holding_spec.specs.State.{HoldingReceiver, holdsNone, holdsOne, holdingChecks}
 use Rattle.holding_spec.specs.Answers.{neither, held, new, HoldingAnswer, refuses, waits, isLate, isJump, isBreak, gives, HoldingStep, wasRefused}
 use Rattle.holding_spec.specs.Step.{called, holdingStep}
-use Rattle.holding_spec.specs.internal.ByStep.{told}
+use Rattle.holding_spec.specs.internal.PlainStep.{told}
 use Rattle.holding_spec.proofs.HoldingTests.{one}
 use Rattle.receiver_spec.specs.Answers.{Given}
 use Rattle.demands.specs.Line.{Line}

@@ -20,10 +20,10 @@ use Rattle.receiver.specs.internal.Read.{readStep, readGiven}
 use Rattle.holding_spec.specs.State.{HoldingReceiver, holdsNone, holdsOne}
 use Rattle.holding_spec.specs.Answers.{neither, held, new, HoldingAnswer, waits, isLate, HoldingStep}
 use Rattle.holding_spec.specs.Rule.{longestHold, waited, arrives}
-use Rattle.holding_spec.specs.internal.ByStep.{told, stayed, wasForward, wasBreak}
+use Rattle.holding_spec.specs.internal.PlainStep.{told, stayed, wasForward, wasBreak}
 use Rattle.holding.specs.internal.Arriving.{ReadAs, arrived, ArrivesAlone, ArrivesBehind, WaitsBehind}
-use Rattle.holding_spec.proofs.ByStep as by
-use Rattle.holding_spec.proofs.ByStep.{goesBy}
+use Rattle.holding_spec.proofs.PlainStep as by
+use Rattle.holding_spec.proofs.PlainStep.{goesBy}
 use Rattle.holding.proofs.Readings.{accept-is, give-is, same-number}
 
 made : (h h′ : HoldingReceiver) (a a′ : HoldingAnswer) → h ≡ h′ → a ≡ a′ → _≡_ {A = HoldingStep} (record { receiver = h; answer = a }) (record { receiver = h′; answer = a′ })

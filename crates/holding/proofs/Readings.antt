@@ -24,7 +24,7 @@ use Rattle.receiver.proofs.Steps.{was-read, read-step, read-given}
 use Rattle.holding_spec.specs.State.{isNumbered}
 use Rattle.holding.specs.internal.Arriving.{ReadAs}
 use Rattle.holding.specs.internal.Calling.{readBack}
-use Rattle.holding_spec.proofs.ByStep.{goesBy}
+use Rattle.holding_spec.proofs.PlainStep.{goesBy}
 
 module _ (r : Receiver) (p : List ℕ) (c : Content) (k : Packet) (is : ReadAs r p c k) where
   pub accept-is : readStep r k ≡ stepRead r p (holds c)

@@ -10,7 +10,7 @@ ghost use Rattle.receiver.specs.View.{receiverOf, stepAnswer};
 ghost use Rattle.holding_spec.specs.Rule.{longestHold};
 ghost use Rattle.holding.specs.View.{holdingOf, whichOf, holdingAnswer, advanced};
 ghost use Rattle.holding_spec.specs.State.{holdsNone, holdsOne};
-ghost use Rattle.holding_spec.specs.internal.ByStep.{told, stayed, wasForward, wasBreak};
+ghost use Rattle.holding_spec.specs.internal.PlainStep.{told, stayed, wasForward, wasBreak};
 ghost use Rattle.holding.specs.internal.Arriving.{ArrivesAlone, ArrivesBehind, WaitsBehind};
 use crate::Advanced;
 use crate::HoldingAnswer;

@@ -3,5 +3,5 @@ pub mod Refusals
 pub mod Turns
 pub mod Recorded
 pub mod TextHanded
-pub mod ByStep
+pub mod PlainStep
 pub mod Edges

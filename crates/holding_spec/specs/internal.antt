@@ -1,1 +1,1 @@
-pub mod ByStep
+pub mod PlainStep

@@ -4,7 +4,7 @@ use mathlib.Core.Bool.{Bool, true}
 use borrow.Author.Needs.{needs}
 use lib.Dec.{leb}
 use Rattle.receiver.specs.View.{stepAnswer}
-use Rattle.holding_spec.specs.internal.ByStep.{wasForward}
+use Rattle.holding_spec.specs.internal.PlainStep.{wasForward}
 use Rattle.holding.proofs.arriving.is_farther.Statement.{statement}
 use Rattle.holding.proofs.arriving.is_farther.Tie as tie
 

@@ -6,7 +6,7 @@ use borrow.Author.Needs.{needs, sfits-of}
 use Rattle.receiver.specs.declared.Answer.{Answer}
 use Rattle.receiver.specs.View.{stepAnswer}
 use Rattle.holding_spec.specs.Answers.{Which}
-use Rattle.holding_spec.specs.internal.ByStep.{told}
+use Rattle.holding_spec.specs.internal.PlainStep.{told}
 use Rattle.holding.proofs.arriving.tell.Statement.{statement}
 use Rattle.holding.proofs.arriving.tell.Tie as tie
 

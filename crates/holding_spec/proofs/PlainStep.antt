@@ -19,7 +19,7 @@ use Rattle.receiver_spec.specs.Record.{lossOf}
 use Rattle.holding_spec.specs.Answers.{neither, held, new, waits, isLate, HoldingStep}
 use Rattle.holding_spec.specs.Rule.{longestHold, Arrived, ahead, wouldLose, waited, byCourse, firstArrives, arrives}
 use Rattle.holding_spec.specs.State.{holdsNone, holdsOne}
-use Rattle.holding_spec.specs.internal.ByStep.{told, wasForward, wasBreak}
+use Rattle.holding_spec.specs.internal.PlainStep.{told, wasForward, wasBreak}
 
 abbrev pub arrived : ℕ → List ℕ → Content → Arrived
 arrived t p c = record { arrival = t; bytes = p; content = c }
