@@ -47,18 +47,21 @@ static void circle(void)
     EXPECT(hold(&parts, 0, 10, 7) && unused(&parts, 10));
 
     /* Repeats go on while text waits, and spend nothing. */
-    sends(&parts, 307, 4 + 10, letters, 0);
-    memcpy(texts + 2 * STEWPIGEON_ROOM, letters + 10, 15);
-    EXPECT(memcmp(parts.texts.record, texts, sizeof texts) == 0);
-    EXPECT(sender->room == 2 && sender->len == 15 && sender->characters == 15 && sender->since == 7);
-    EXPECT(sender->lens[0] == 0 && sender->lens[1] == 10 && sender->progress.last_text == 7);
-    EXPECT(sender->pace.next == 0 && sender->pace.used == 10);
-    EXPECT(hold(&parts, 0, 10, 7) && unused(&parts, 10));
-    sends(&parts, 607, 4 + 10 + 4, letters, 0);
-    quiet(&parts, 907);
+    for (size_t k = 1; k <= STEWPIGEON_LEVELS; k++) {
+        size_t slot = (k + 1) % (STEWPIGEON_LEVELS + 1);
+        sends(&parts, 7 + 300 * k, 10 + 4 * k, letters, 0);
+        memcpy(texts + STEWPIGEON_ROOM * slot, letters + 10, 15);
+        EXPECT(memcmp(parts.texts.record, texts, sizeof texts) == 0);
+        EXPECT(sender->room == slot && sender->len == 15 && sender->characters == 15 && sender->since == 7);
+        EXPECT(sender->lens[0] == 0 && sender->progress.last_text == 7);
+        EXPECT(k == STEWPIGEON_LEVELS || sender->lens[k] == 10);
+        EXPECT(sender->pace.next == 0 && sender->pace.used == 10);
+        EXPECT(hold(&parts, 0, 10, 7) && unused(&parts, 10));
+    }
+    quiet(&parts, 7 + 300 * (STEWPIGEON_LEVELS + 1));
     quiet(&parts, 10007);
 
-    sends(&parts, 10008, 4 + 4, letters + 10, 10);
+    sends(&parts, 10008, 4 * STEWPIGEON_LEVELS, letters + 10, 10);
     EXPECT(sender->len == 5 && sender->characters == 5 && sender->since == 10008);
     EXPECT(sender->pace.next == 0 && sender->pace.used == 10);
     EXPECT(hold(&parts, 0, 10, 10008) && unused(&parts, 10));
@@ -68,7 +71,7 @@ static void circle(void)
     EXPECT(sender->pace.next == 5 && sender->pace.used == 10);
     EXPECT(hold(&parts, 0, 5, 20009) && hold(&parts, 5, 5, 10008) && unused(&parts, 10));
     EXPECT(offer(&parts, 20009, letters, 26) == 0);
-    sends(&parts, 20309, 4 + 5 + 4 + 10, letters, 5);
+    sends(&parts, 20309, STEWPIGEON_LEVELS == 1 ? 4 + 5 : 4 + 5 + 4 + 10, letters, 5);
     EXPECT(sender->len == 21 && sender->characters == 21 && sender->since == 20309);
     EXPECT(sender->pace.next == 0 && sender->pace.used == 10);
     EXPECT(hold(&parts, 0, 5, 20009) && hold(&parts, 5, 5, 20309) && unused(&parts, 10));
@@ -91,9 +94,10 @@ static void whole_log(void)
     }
     EXPECT(sender->pace.next == 0 && sender->pace.used == STEWPIGEON_LOG);
     EXPECT(offer(&parts, 2700, text, 1) == 0);
-    EXPECT(clock_call(&parts, 3000, packet, sizeof packet) > 0);
-    EXPECT(sender->len == 1 && sender->since == 2700);
-    EXPECT(clock_call(&parts, 3300, packet, sizeof packet) > 0);
+    for (size_t k = 1; k <= STEWPIGEON_LEVELS; k++) {
+        EXPECT(clock_call(&parts, 2700 + 300 * k, packet, sizeof packet) > 0);
+        EXPECT(sender->len == 1 && sender->since == 2700);
+    }
     quiet(&parts, 10000);
     EXPECT(clock_call(&parts, 10001, packet, sizeof packet) > 0);
     EXPECT(sender->len == 0 && sender->pace.next == 1 && sender->pace.used == STEWPIGEON_LOG);

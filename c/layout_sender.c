@@ -7,9 +7,11 @@ void opened_fields(struct parts *parts, size_t rate)
     uint8_t *texts = parts->texts.record;
 
     FILLED(*parts);
-    EXPECT(stewpigeon_sender_open_in(&parts->line.record, texts, 2, 300, rate, 98, 100, 65535, 1000, 0x11223344) == 0);
+    EXPECT(stewpigeon_sender_open_in(&parts->line.record, texts, STEWPIGEON_LEVELS, 300, rate, 98, 100, 65535, 1000,
+                                     0x11223344) == 0);
     EXPECT(ALL_UNTOUCHED(*parts) && STILL_FILLED(parts->log));
-    EXPECT(sender->settings.level == 2 && sender->settings.buffering == 300 && sender->settings.rate == rate);
+    EXPECT(sender->settings.level == STEWPIGEON_LEVELS);
+    EXPECT(sender->settings.buffering == 300 && sender->settings.rate == rate);
     EXPECT(sender->settings.t140 == 98 && sender->settings.red == 100);
     EXPECT(sender->settings.sequence == 65535 && sender->settings.timestamp == 1000);
     EXPECT(sender->settings.source == 0x11223344);
@@ -120,6 +122,37 @@ static void slots(void)
     }
 }
 
+/* Whole rooms of text, up to the longest packet. One byte less of space is refused, and nothing changes. */
+static void longest(void)
+{
+    static const size_t lengths[] = {173, 337, 501, 665, 829, 993, 1157, 1321};
+    struct parts parts, kept;
+    struct stewpigeon_packet read;
+    uint8_t space[STEWPIGEON_LONGEST], text[STEWPIGEON_ROOM];
+    int64_t last = 0;
+
+    for (size_t i = 0; i < sizeof text; i += 2)
+        memcpy(text + i, "\xC3\xA5", 2);
+    opened_fields(&parts, STEWPIGEON_HIGHEST_RATE);
+    for (size_t k = 0; k <= STEWPIGEON_LEVELS; k++) {
+        EXPECT(offer(&parts, 300 * k, text, sizeof text) == 0);
+        memset(space, fill, sizeof space);
+        refilled(&parts.line);
+        KEEP(kept, parts);
+        EXPECT(clock_call(&parts, 300 * k, space, lengths[k] - 1) == -STEWPIGEON_REFUSED_SPACE);
+        EXPECT(SAME(kept, parts) && are(space, sizeof space, fill));
+        last = clock_call(&parts, 300 * k, space, lengths[k]);
+        EXPECT(last == (int64_t)lengths[k] && are(space + last, sizeof space - lengths[k], fill));
+        EXPECT(ALL_UNTOUCHED(parts) && stewpigeon_read(0, 0, 98, 100, space, lengths[k], &read) == 0);
+        EXPECT(read.count == k && memcmp(space + read.primary, text, sizeof text) == 0);
+    }
+    EXPECT(last == STEWPIGEON_LONGEST_WRITTEN);
+    last = clock_call(&parts, 300 * (STEWPIGEON_LEVELS + 1), space, STEWPIGEON_LONGEST_WRITTEN);
+    EXPECT(last == STEWPIGEON_LONGEST_WRITTEN - STEWPIGEON_ROOM);
+    EXPECT(stewpigeon_read(0, 0, 98, 100, space, (size_t)last, &read) == 0);
+    EXPECT(read.count == STEWPIGEON_LEVELS && read.primary == read.end);
+}
+
 /* Refused calls on a sender in which "AB" has waited since 5 leave record, texts, log and space. */
 static void refused(struct parts *parts)
 {
@@ -172,9 +205,9 @@ static void stays(void)
     EXPECT(clock_call(&parts, 6, space, sizeof space) == 15);
     quiet(&parts, 305);
 
-    /* A refused opening gives zeros. */
+    /* A refused opening gives zeros; the level comes before the buffering time. */
     FILLED(parts);
-    EXPECT(stewpigeon_sender_open_in(sender, parts.texts.record, 5, 300, 30, 98, 100, 1, 1, 1) ==
+    EXPECT(stewpigeon_sender_open_in(sender, parts.texts.record, STEWPIGEON_LEVELS + 1, 0, 30, 98, 100, 1, 1, 1) ==
            STEWPIGEON_REFUSED_LEVEL);
     EXPECT(ALL_UNTOUCHED(parts) && STILL_FILLED(parts.log));
     EXPECT(sender->settings.level == 0 && sender->settings.buffering == 0 && sender->settings.rate == 0);
@@ -229,8 +262,8 @@ static void whole_sender(void)
     uint8_t packet[STEWPIGEON_LONGEST];
 
     FILLED(line);
-    EXPECT(stewpigeon_sender_open(&line.record, 4, 1, STEWPIGEON_RATE, 98, 100, 7, 1000, 0x11223344) == 0);
-    EXPECT(UNTOUCHED(line) && are(sender->texts, STEWPIGEON_TEXTS, 0) && sender->record.settings.level == 4);
+    EXPECT(stewpigeon_sender_open(&line.record, 1, 1, STEWPIGEON_RATE, 98, 100, 7, 1000, 0x11223344) == 0);
+    EXPECT(UNTOUCHED(line) && are(sender->texts, STEWPIGEON_TEXTS, 0) && sender->record.settings.level == 1);
     EXPECT(sender->record.settings.rate == 30 && are((const uint8_t *)sender->log, sizeof sender->log, 0));
     EXPECT(stewpigeon_sender_offer(&line.record, 3, (const uint8_t *)"AB", 2) == 0);
     EXPECT(UNTOUCHED(line) && memcmp(sender->texts, "AB", 2) == 0 && are(sender->texts + 2, STEWPIGEON_TEXTS - 2, 0));
@@ -240,7 +273,7 @@ static void whole_sender(void)
     EXPECT(are((const uint8_t *)(sender->log + 2), sizeof sender->log - 16, 0));
 
     /* Refused, an opening leaves no other value than 0 in texts and log. */
-    EXPECT(stewpigeon_sender_open(&line.record, 4, 1, 0, 98, 100, 7, 1000, 1) == STEWPIGEON_REFUSED_RATE);
+    EXPECT(stewpigeon_sender_open(&line.record, 1, 1, 0, 98, 100, 7, 1000, 1) == STEWPIGEON_REFUSED_RATE);
     EXPECT(UNTOUCHED(line) && sender->record.settings.level == 0 && are(sender->texts, STEWPIGEON_TEXTS, 0));
     EXPECT(are((const uint8_t *)sender->log, sizeof sender->log, 0));
 }
@@ -249,6 +282,7 @@ void layout_of_the_sender(void)
 {
     every_field();
     slots();
+    longest();
     stays();
     every_flag();
     whole_sender();

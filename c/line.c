@@ -49,7 +49,7 @@ int main(void)
     const size_t count = sizeof words / sizeof words[0];
     struct stewpigeon_sender sender;
     struct stewpigeon_receiver receiver;
-    uint8_t packet[STEWPIGEON_LONGEST];
+    uint8_t packet[STEWPIGEON_LONGEST_WRITTEN];
     unsigned sent = 0;
 
     check(stewpigeon_sender_open(&sender, LEVEL, STEWPIGEON_BUFFERING_MS, STEWPIGEON_RATE, T140, RED, 65530, 1000, 0x5eed),

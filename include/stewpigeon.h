@@ -18,7 +18,7 @@
 
 /* The version: all else that names it is made from this, or held to it. */
 #define STEWPIGEON_VERSION_MAJOR 0
-#define STEWPIGEON_VERSION_MINOR 5
+#define STEWPIGEON_VERSION_MINOR 6
 #define STEWPIGEON_VERSION_PATCH 0
 
 #ifdef __cplusplus
@@ -45,7 +45,7 @@ enum stewpigeon_refusal {
     STEWPIGEON_REFUSED_PAYLOAD_TYPE = 15,  /* the payload type is neither T140 nor RED */
     STEWPIGEON_REFUSED_SOURCE = 16,        /* another source than that of the first accepted packet */
     STEWPIGEON_REFUSED_BLOCK_HEADERS = 17, /* block headers pass the end */
-    STEWPIGEON_REFUSED_BLOCK_COUNT = 18,   /* a fifth older block */
+    STEWPIGEON_REFUSED_BLOCK_COUNT = 18,   /* more older blocks than STEWPIGEON_LEVELS */
     STEWPIGEON_REFUSED_BLOCK_TYPE = 19,    /* a block's type is not T140 */
     STEWPIGEON_REFUSED_BLOCK_LENGTHS = 20, /* the older blocks' lengths pass the end */
     STEWPIGEON_REFUSED_BLOCK_TEXT = 21,    /* a block is not UTF-8 */
@@ -53,15 +53,23 @@ enum stewpigeon_refusal {
     STEWPIGEON_REFUSED_HELD_PACKET = 27    /* the packet lent as held is refused or has another number */
 };
 
-#define STEWPIGEON_LEVELS 4         /* the highest number of repeats */
+/*
+ * The highest number of repeats, 1 to 7. It must be the one that the library was built with: the sizes of records follow
+ * from it, and what a call does with records of another size is undefined.
+ */
+#define STEWPIGEON_LEVELS 7
+
 #define STEWPIGEON_BUFFERING_MS 300 /* the usual buffering time */
 #define STEWPIGEON_RATE 30          /* the usual rate, where a client states no "cps" (RFC 4103, section 6) */
 #define STEWPIGEON_HIGHEST_RATE 100 /* the highest rate */
 #define STEWPIGEON_ROOM 160         /* the bytes that a waiting room, and so a block, holds */
 #define STEWPIGEON_SHORTEST 12      /* the shortest packet that is read */
-#define STEWPIGEON_LONGEST 1472     /* and the longest; no packet that is written is longer */
+#define STEWPIGEON_LONGEST 1472     /* and the longest */
 #define STEWPIGEON_MARK 3           /* the bytes of a loss mark, EF BF BD */
 #define STEWPIGEON_HOLDING_MS 1000  /* how long a packet is held at most */
+
+/* The longest packet that is written: lend a clock call so much space. */
+#define STEWPIGEON_LONGEST_WRITTEN (173 + 164 * STEWPIGEON_LEVELS)
 
 /* A receiver. */
 struct stewpigeon_receiver {
@@ -172,9 +180,9 @@ struct stewpigeon_sender_record {
     struct stewpigeon_progress progress;
 };
 
-#define STEWPIGEON_SENDER_RECORD_SIZE 200
+#define STEWPIGEON_SENDER_RECORD_SIZE (136 + 16 * STEWPIGEON_LEVELS)
 
-#define STEWPIGEON_TEXTS ((STEWPIGEON_LEVELS + 1) * STEWPIGEON_ROOM) /* the bytes of all slots: 800 */
+#define STEWPIGEON_TEXTS ((STEWPIGEON_LEVELS + 1) * STEWPIGEON_ROOM) /* the bytes of all slots */
 #define STEWPIGEON_LOG (10 * STEWPIGEON_HIGHEST_RATE)                /* the times in a log: 1,000 */
 
 /* A sender. */
@@ -184,7 +192,7 @@ struct stewpigeon_sender {
     uint64_t log[STEWPIGEON_LOG];
 };
 
-#define STEWPIGEON_SENDER_SIZE 9000
+#define STEWPIGEON_SENDER_SIZE (STEWPIGEON_SENDER_RECORD_SIZE + STEWPIGEON_TEXTS + 8 * STEWPIGEON_LOG)
 
 /* Opens a receiver. Answers 0; or 3, and then the receiver is all zeros. */
 uint8_t stewpigeon_receiver_open(struct stewpigeon_receiver *receiver, uint8_t t140, uint8_t red);
@@ -314,7 +322,7 @@ struct stewpigeon_packet {
     size_t end;                                       /* and ends */
 };
 
-#define STEWPIGEON_PACKET_SIZE 136
+#define STEWPIGEON_PACKET_SIZE (40 + 24 * STEWPIGEON_LEVELS)
 
 /*
  * Reads a packet by itself. With `expects` 0 any source is accepted, else only `source`. Answers 0, and the packet in

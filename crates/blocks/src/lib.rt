@@ -52,14 +52,13 @@ fn read_blocks(
     requires { ⌜ (count ≤ level) × (first ≤ end) × (end ≤ length (now packet)) ⌝ }
     ensures { λ r. ⌜ blocksSeen r ≡ seenBehind end (Heads.heads (seenHeads count heads) (slice first end (now (packet .entry)))) ⌝ }
 {
-    let placed = placing::place(first, count, heads);
-    let primary = placed.primary;
+    let primary = placing::primary(first, count, heads);
     if end < primary {
         return refused(Refusal::BlockLengths);
     }
     match judging::judge(packet, first, count, heads, end) {
         Outcome::Refused(refusal) => refused(refusal),
-        Outcome::Accepted => placed,
+        Outcome::Accepted => placing::place(first, count, heads),
     }
 }
 

@@ -48,6 +48,15 @@ pub fn place(first: usize, count: usize, heads: [Head; Packet::LEVEL]) -> Blocks
     }
 }
 
+// Where the primary starts behind the blocks that the headers tell of.
+pub fn primary(first: usize, count: usize, heads: [Head; Packet::LEVEL]) -> usize
+    requires { ⌜ (first ≤ 9223372036854775807) × (count ≤ level) ⌝ }
+    ensures { λ r. ⌜ r ≡ first + total (seenHeads count heads) ⌝ }
+{
+    let placed = place(first, count, heads);
+    placed.primary
+}
+
 // Refused where a block is not text. The older blocks lie together from `first` on, then the primary up to `end`.
 pub fn check(
     packet: &[u8],

@@ -5,7 +5,7 @@ use mathlib.Core.List.{List}
 use mathlib.Core.Bool.{Bool, true, false, cond, not}
 use native.Mathlib.Omega.{arith}
 use lib.Dec.{eqb}
-use borrow.Author.Tests.{eqb-true}
+use borrow.Author.Tests.{le-ltb, eqb-true}
 use Rattle.base.specs.Checks.{numberBy}
 use Rattle.packet_spec.specs.Limits.{level}
 use Rattle.packet_spec.specs.Header.{typesBad}
@@ -174,6 +174,6 @@ demand-1 = record {
   clock-quiet = clock-quiet;
   zero-receiver = λ p. refl;
   zero-holding = λ t lent p. refl;
-  zero-offer = λ t x. refl;
-  zero-clock = λ t p. refl;
+  zero-offer = λ t x. rw (le-ltb level 0 (omega arith));
+  zero-clock = λ t p. rw (le-ltb level 0 (omega arith));
 }

@@ -6,6 +6,7 @@ use mathlib.Core.Bool.{cond}
 use native.Mathlib.Omega.{arith}
 use lib.Dec.{eqb}
 use lib.ListN.{length, take, drop, replicate}
+use Rattle.packet_spec.specs.Limits.{level}
 use Rattle.packet_spec.specs.Redundancy.{headers}
 use Rattle.packet_spec.specs.Reading.{reading}
 use Rattle.sender_spec.specs.State.{Settings, Sender}
@@ -76,17 +77,17 @@ eleven = offer 0 (letters 10) ∷ clock 0 space ∷ offer 1 (letters 1) ∷ cloc
 
 -- logs nothing
 pub forgetful-fails : Rate (logging (λ s t. [])) → ⊥
-unfolding reading headers openSender settingsNumber offerOf clockOf
+unfolding reading headers openSender settingsNumber offerOf clockOf level
 forgetful-fails d = let z : 11 ≤ 10 = d .limit (slow 0) eleven refl 0 in omega arith
 
 -- does not count its first character: one more than the limit
 pub overdrawn-fails : Rate (logging (λ s t. spent (going s t - cond (s .progress .sent) 0 1) t s)) → ⊥
-unfolding reading headers openSender settingsNumber offerOf clockOf
+unfolding reading headers openSender settingsNumber offerOf clockOf level
 overdrawn-fails d = let z : 11 ≤ 10 = d .limit (slow 0) eleven refl 0 in omega arith
 
 -- logs its characters 1 ms early, a window of 9,999: what left at 1 does not count at 10,001
 pub early-fails : Rate (logging (λ s t. spent (going s t) (t - 1) s)) → ⊥
-unfolding reading headers openSender settingsNumber offerOf clockOf
+unfolding reading headers openSender settingsNumber offerOf clockOf level
 early-fails d =
     let calls = offer 1 (letters 10) ∷ clock 1 space ∷ offer 2 (letters 1) ∷ clock 10001 space ∷ [] in
     let z : 11 ≤ 10 = d .limit (slow 0) calls refl 1 in
@@ -94,7 +95,7 @@ early-fails d =
 
 -- 1 ms late, a window of 10,001: what left at 0 counts at 10,001
 pub late-fails : Rate (logging (λ s t. spent (going s t) (t + 1) s)) → ⊥
-unfolding reading headers openSender settingsNumber offerOf clockOf
+unfolding reading headers openSender settingsNumber offerOf clockOf level
 late-fails d =
     let calls = offer 0 (letters 10) ∷ clock 0 space ∷ offer 1 (letters 1) ∷ [] in
     let z : 1 ≤ 0 = d .quiet (slow 0) calls refl 10001 space (omega arith) refl .no-longer (letters 1) [] 1 refl refl (omega arith) in
@@ -102,7 +103,7 @@ late-fails d =
 
 -- counts bytes: five letters of two bytes each fill its window
 pub bytes-counted-fails : Rate (logging (λ s t. spent (length (taken s t)) t s)) → ⊥
-unfolding reading headers openSender settingsNumber offerOf clockOf
+unfolding reading headers openSender settingsNumber offerOf clockOf level
 bytes-counted-fails d =
     let calls = offer 0 (å ++ å ++ å ++ å ++ å) ∷ clock 0 space ∷ offer 1 (letters 1) ∷ [] in
     let z : 1 ≤ 0 = d .quiet (slow 0) calls refl 1 space (omega arith) refl .no-longer (letters 1) [] 1 refl refl (omega arith) in
@@ -115,7 +116,7 @@ wholly s t p =
     cond (eqb (going s t) (s .characters)) (clockOf s t p) (record { answer = r .answer; sender = withTimes (r .sender) (s .times); lent = r .lent })
 
 pub wholly-fails : Rate (withSender offerOf wholly) → ⊥
-unfolding reading headers openSender settingsNumber offerOf clockOf
+unfolding reading headers openSender settingsNumber offerOf clockOf level
 wholly-fails d =
     let calls = offer 0 (letters 1) ∷ clock 0 space ∷ offer 1 (letters 10) ∷ [] in
     let z : 9 ≤ 0 = d .longest (slow 1) calls refl 1 space .0 .no-longer (letters 9) (letters 1) 9 refl refl (omega arith) in
@@ -131,7 +132,7 @@ abbrev cutting : Sender → ℕ → List ℕ → ClockResult
 cutting s t p = let r = clockOf (withRoom s (take (going s t) (s .waiting)) (going s t)) t p in cutBy s t p r (r .answer)
 
 pub cutting-fails : Rate (withSender offerOf cutting) → ⊥
-unfolding reading headers openSender settingsNumber offerOf clockOf
+unfolding reading headers openSender settingsNumber offerOf clockOf level
 cutting-fails d =
     let room = letters 1 ++ å in
     let z : 3 ≤ 0 = d .longest (slow 0) (offer 0 room ∷ []) refl 0 space .0 .no-longer room [] 2 refl refl (omega arith) in

@@ -51,17 +51,17 @@ abbrev calls : List Call
 calls = offer 0 (0x41 ∷ []) ∷ clock 0 space ∷ offer 300 (0x42 ∷ []) ∷ clock 300 space ∷ offer 600 (0x43 ∷ []) ∷ clock 600 space ∷ []
 
 abbrev ws : List Written
-ws = sentBy ours (settings 2) calls
+ws = sentBy ours (settings 1) calls
 
 abbrev packet : ℕ → List ℕ
 packet = packetAt ws
 
-keeps : KeepsRules 98 100 (rulesOf (settings 2) ws (leftBy ours (settings 2) calls .clock)) packet
-unfolding sender.openSender settingsNumber
-keeps = ours-keeps (settings 2) calls refl
+keeps : KeepsRules 98 100 (rulesOf (settings 1) ws (leftBy ours (settings 1) calls .clock)) packet
+unfolding sender.openSender settingsNumber level
+keeps = ours-keeps (settings 1) calls refl
 
 abbrev rules : Rules
-rules = rulesOf (settings 2) ws (leftBy ours (settings 2) calls .clock)
+rules = rulesOf (settings 1) ws (leftBy ours (settings 1) calls .clock)
 
 -- our line with another reader
 abbrev withRead : (Expected → ℕ → ℕ → List ℕ → Read) → Line
@@ -85,14 +85,14 @@ abbrev refusing : Line
 refusing = withRead (λ e t140 red p. refused 10)
 
 pub refuses-everything-fails : Demand1 refusing → ⊥
-unfolding reading headers sender.openSender settingsNumber offerOf clockOf
+unfolding reading headers sender.openSender settingsNumber offerOf clockOf level
 refuses-everything-fails d = let z : _≡_ {A = ℕ} 0 1 = ap numberOf (d .read-number Any 98 100 (packet 0) 10 .0 refl) in omega arith
 
 pub refuses-everything-reads-nothing-back : Demand2 refusing → ⊥
-unfolding reading headers sender.openSender settingsNumber offerOf clockOf
-refuses-everything-reads-nothing-back d = let z : _≡_ {A = ℕ} 1 0 = ap numberOf (d .read-back (settings 2) calls refl .0 .read Any tt) in omega arith
+unfolding reading headers sender.openSender settingsNumber offerOf clockOf level
+refuses-everything-reads-nothing-back d = let z : _≡_ {A = ℕ} 1 0 = ap numberOf (d .read-back (settings 1) calls refl .0 .read Any tt) in omega arith
 
--- a reader that passes ages that do not fall: `A` and `B`, both of 300 ms
+-- a reader that passes ages that do not fall to 1 or more: `A`, of 0 ms
 abbrev ofAnyAge : List ℕ → Heads → Read
 ofAnyAge p (bad n) = refused n
 ofAnyAge p (heads hs s) = cond (ltb (length s) (total hs)) (refused 20) (cond (areText hs s) (holds (content p hs s)) (refused 21))
@@ -101,9 +101,9 @@ abbrev anyAge : Line
 anyAge = withRead (λ e t140 red p. checked refused (headerChecks e t140 red p) (ofAnyAge p (headsOf level t140 p)))
 
 pub any-age-fails : Demand2 anyAge → ⊥
-unfolding reading headers
+unfolding reading headers level
 any-age-fails d =
-    let p = redundant 0 9 (0xE2 ∷ 0x04 ∷ 0xB0 ∷ 0x01 ∷ 0xE2 ∷ 0x04 ∷ 0xB0 ∷ 0x01 ∷ 0x62 ∷ 0x41 ∷ 0x42 ∷ 0x43 ∷ []) in
+    let p = redundant 0 9 (0xE2 ∷ 0x00 ∷ 0x00 ∷ 0x01 ∷ 0x62 ∷ 0x41 ∷ 0x42 ∷ []) in
     let z : _≡_ {A = ℕ} 0 1 = ap numberOf (d .reads Any 98 100 p) in
     omega arith
 
@@ -128,7 +128,8 @@ pub openings-refuse-fails : Demand1 closed → ⊥
 openings-refuse-fails d = let z : _≡_ {A = ℕ} 3 0 = d .receiver-number 98 100 in omega arith
 
 pub sender-openings-refuse-fails : Demand1 closed → ⊥
-sender-openings-refuse-fails d = let z : _≡_ {A = ℕ} 1 0 = d .sender-number (settings 2) in omega arith
+unfolding level
+sender-openings-refuse-fails d = let z : _≡_ {A = ℕ} 1 0 = d .sender-number (settings 1) in omega arith
 
 -- our line with another step
 abbrev pub withStep : (Receiver → List ℕ → Step) → Line
@@ -161,7 +162,7 @@ abbrev fixedAnswer : Receiver → List ℕ → Step
 fixedAnswer r p = record { receiver = r; answer = gives (record { loss = 0; distance = pos 0; older = 0; given = 1; from = 12; to = 12 }) }
 
 pub fixed-answer-fails : Demand3 (withStep fixedAnswer) → ⊥
-unfolding stepOf reading headers sender.openSender settingsNumber offerOf clockOf
+unfolding stepOf reading headers sender.openSender settingsNumber offerOf clockOf level
 fixed-answer-fails d = let z : _≡_ {A = ℕ} 2 3 = as-many fixedAnswer d (0 ∷ 2 ∷ []) refl (omega arith, omega arith, tt) in omega arith
 
 -- does nothing: every packet is late
@@ -177,7 +178,7 @@ abbrev neverMoves : Receiver → List ℕ → Step
 neverMoves r p = record { receiver = r; answer = stepOf r p .answer }
 
 pub never-moves-fails : Demand3 (withStep neverMoves) → ⊥
-unfolding stepOf reading headers sender.openSender settingsNumber offerOf clockOf
+unfolding stepOf reading headers sender.openSender settingsNumber offerOf clockOf level
 never-moves-fails d = let z : _≡_ {A = ℕ} 3 2 = as-many neverMoves d (0 ∷ 1 ∷ []) refl (omega arith, omega arith, tt) in omega arith
 
 -- gives the first packet's text, and then says only "late"
@@ -185,7 +186,7 @@ abbrev lateForEver : Receiver → List ℕ → Step
 lateForEver r p = cond (r .hasSource) (record { receiver = r; answer = isLate (negsuc 0) }) (stepOf r p)
 
 pub late-for-ever-fails : Demand3 (withStep lateForEver) → ⊥
-unfolding stepOf reading headers sender.openSender settingsNumber offerOf clockOf
+unfolding stepOf reading headers sender.openSender settingsNumber offerOf clockOf level
 late-for-ever-fails d = let z : _≡_ {A = ℕ} 1 2 = as-many lateForEver d (0 ∷ 1 ∷ []) refl (omega arith, omega arith, tt) in omega arith
 
 -- another answer where a packet is forward
@@ -203,7 +204,7 @@ madeUpLoss r p =
     (stepOf r p) (stepOf r p .answer)
 
 pub made-up-loss-fails : Demand3 (withStep madeUpLoss) → ⊥
-unfolding stepOf reading headers sender.openSender settingsNumber offerOf clockOf
+unfolding stepOf reading headers sender.openSender settingsNumber offerOf clockOf level
 made-up-loss-fails d = let z : _≡_ {A = ℕ} 2 1 = as-many madeUpLoss d (0 ∷ []) refl tt in omega arith
 
 -- all older blocks where d are missing: `A` is recorded again
@@ -213,7 +214,7 @@ allOlder r p =
     (stepOf r p) (stepOf r p .answer)
 
 pub all-older-fails : Demand3 (withStep allOlder) → ⊥
-unfolding stepOf reading headers sender.openSender settingsNumber offerOf clockOf
+unfolding stepOf reading headers sender.openSender settingsNumber offerOf clockOf level
 all-older-fails d = let z : _≡_ {A = ℕ} 3 2 = as-many allOlder d (0 ∷ 1 ∷ []) refl (omega arith, omega arith, tt) in omega arith
 
 -- 16 for ever after the first packet: demand 3 speaks of accepted packets alone, but the table's "only when" shuts it out
@@ -221,7 +222,7 @@ abbrev sixteenForEver : Receiver → List ℕ → Step
 sixteenForEver r p = cond (r .hasSource) (record { receiver = r; answer = refuses 16 }) (stepOf r p)
 
 pub sixteen-for-ever-fails : Demand1 (withStep sixteenForEver) → ⊥
-unfolding stepOf reading headers sender.openSender settingsNumber offerOf clockOf
+unfolding stepOf reading headers sender.openSender settingsNumber offerOf clockOf level
 sixteen-for-ever-fails d =
     let r : Receiver = record { t140 = 98; red = 100; hasSource = true; source = 7; expected = 0; hasKept = false; kept = 0 } in
     let q = d .step-number r (packet 1) 16 .0 refl in

@@ -50,9 +50,9 @@ isSent answers.quiet = 0
 isSent (answers.sent n) = 1
 
 pub always-quiet-fails : Demand2 alwaysQuiet → ⊥
-unfolding sender.openSender settingsNumber offerOf
+unfolding sender.openSender settingsNumber offerOf level
 always-quiet-fails d =
-    let s : Sender = senderWith (sender.openSender (settings 2) .sender) 0 (0x41 ∷ []) in
+    let s : Sender = senderWith (sender.openSender (settings 1) .sender) 0 (0x41 ∷ []) in
     let z : _≡_ {A = ℕ} 0 1 = ap isSent (d .writes-when-due s 0 space refl refl (omega arith) .0) in
     omega arith
 
@@ -70,10 +70,10 @@ abbrev deleting : Line
 deleting = withSender offerOf (λ s t p. deletedBy s (clockOf s t p) (clockOf s t p .answer))
 
 pub deleting-fails : Demand2 deleting → ⊥
-unfolding sender.openSender settingsNumber offerOf clockOf
+unfolding sender.openSender settingsNumber offerOf clockOf level
 deleting-fails d =
     let calls = offer 0 (0x41 ∷ []) ∷ clock 0 space ∷ offer 1 (0x42 ∷ []) ∷ clock 2 space ∷ [] in
-    let z : _≡_ {A = ℕ} 1 2 = ap length (d .as-typed (settings 2) calls refl) in
+    let z : _≡_ {A = ℕ} 1 2 = ap length (d .as-typed (settings 1) calls refl) in
     omega arith
 
 -- an offer is kept twice
@@ -85,8 +85,8 @@ abbrev keptTwice : Line
 keptTwice = withSender (λ s t x. twiceBy s t x (offerOf s t x) (offerOf s t x .number)) clockOf
 
 pub kept-twice-fails : Demand2 keptTwice → ⊥
-unfolding sender.openSender settingsNumber offerOf
-kept-twice-fails d = let z : _≡_ {A = ℕ} 2 1 = ap length (d .as-typed (settings 2) (offer 0 (0x41 ∷ []) ∷ []) refl) in omega arith
+unfolding sender.openSender settingsNumber offerOf level
+kept-twice-fails d = let z : _≡_ {A = ℕ} 2 1 = ap length (d .as-typed (settings 1) (offer 0 (0x41 ∷ []) ∷ []) refl) in omega arith
 
 -- a sender with other settings, kept blocks and progress
 abbrev like : Sender → Settings → List SentBlock → Progress → Sender
@@ -101,9 +101,9 @@ like s x kept progress = record {
   progress = progress;
 }
 
--- repeats past the level: a sender of R 1 that writes as one of the highest level; packet 2 repeats `A` too
+-- repeats past its level: a sender of R writes as one of R + 1; at R 0 packet 1 repeats `A`
 abbrev deep : Settings → Settings
-deep x = record { level = level; buffering = x .buffering; rate = x .rate; t140 = x .t140; red = x .red; sequence = x .sequence; timestamp = x .timestamp; source = x .source }
+deep x = record { level = suc (x .level); buffering = x .buffering; rate = x .rate; t140 = x .t140; red = x .red; sequence = x .sequence; timestamp = x .timestamp; source = x .source }
 
 abbrev backTo : Settings → ClockResult → ClockResult
 backTo x r = record { answer = r .answer; sender = like (r .sender) x (r .sender .kept) (r .sender .progress); lent = r .lent }
@@ -112,10 +112,10 @@ abbrev pastLevel : Line
 pastLevel = withSender offerOf (λ s t p. backTo (s .settings) (clockOf (like s (deep (s .settings)) (s .kept) (s .progress)) t p))
 
 pub past-level-fails : Demand3 pastLevel → ⊥
-unfolding reading headers sender.openSender settingsNumber offerOf clockOf
+unfolding reading headers sender.openSender settingsNumber offerOf clockOf level
 past-level-fails d =
-    let calls = offer 0 (0x41 ∷ []) ∷ clock 0 space ∷ offer 300 (0x42 ∷ []) ∷ clock 300 space ∷ offer 600 (0x43 ∷ []) ∷ clock 600 space ∷ [] in
-    let z : _≡_ {A = ℕ} 2 1 = ap length (d .keeps (settings 1) calls refl .reads 2 _ refl .older) in
+    let calls = offer 0 (0x41 ∷ []) ∷ clock 0 space ∷ offer 300 (0x42 ∷ []) ∷ clock 300 space ∷ [] in
+    let z : _≡_ {A = ℕ} 1 0 = ap length (d .keeps (settings 0) calls refl .reads 1 _ refl .older) in
     omega arith
 
 -- ages are not tested: kept blocks pass for ones sent 1 ms ago; `A`, sent at 0, is repeated at 16,384
@@ -126,7 +126,7 @@ abbrev ageless : Line
 ageless = withSender offerOf (λ s t p. clockOf (like s (s .settings) (renewed t (s .kept)) (s .progress)) t p)
 
 pub ageless-fails : Demand3 ageless → ⊥
-unfolding reading headers sender.openSender settingsNumber offerOf clockOf
+unfolding reading headers sender.openSender settingsNumber offerOf clockOf level
 ageless-fails d =
     let calls = offer 0 (0x41 ∷ []) ∷ clock 0 space ∷ clock 16384 space ∷ [] in
     let z : _≡_ {A = ℕ} 1 0 = ap length (d .keeps (settings 1) calls refl .reads 1 _ refl .older) in
@@ -140,7 +140,7 @@ abbrev hasty : Line
 hasty = withSender offerOf (λ s t p. clockOf (like s (s .settings) (s .kept) (lastAtZero (s .progress))) t p)
 
 pub hasty-fails : Demand2 hasty → ⊥
-unfolding sender.openSender settingsNumber offerOf clockOf
+unfolding sender.openSender settingsNumber offerOf clockOf level
 hasty-fails d =
     let calls = offer 300 (0x41 ∷ []) ∷ clock 300 space ∷ offer 300 (0x42 ∷ []) ∷ clock 300 space ∷ [] in
     let e : _≡_ {A = Bool} false true = d .ages-fall (settings 1) calls refl .1 .0 in

@@ -1,5 +1,7 @@
 -- 01's line tests, by computing.
+-- Needs level 2.
 use mathlib.Core.Path.{refl}
+use Rattle.packet_spec.specs.Limits.{level}
 use Rattle.packet_spec.specs.Redundancy.{headers}
 use Rattle.packet_spec.specs.Reading.{reading}
 use Rattle.receiver_spec.specs.Step.{stepOf}
@@ -8,6 +10,6 @@ use Rattle.sender_spec.specs.Calls.{openSender, offerOf, clockOf}
 use Rattle.demands.specs.LineTests.{table, LineTests}
 
 pub line-tests : LineTests
-unfolding table stepOf reading headers openSender offerOf clockOf settingsNumber
+unfolding table stepOf reading headers openSender offerOf clockOf settingsNumber level
 line-tests =
     (refl, (refl, (refl, (refl, (refl, (refl, (refl, (refl, (refl, (refl, (refl, (refl, (refl, (refl, (refl, (refl, (refl, (refl, (refl, (refl, tt))))))))))))))))))))

@@ -7,6 +7,7 @@ use mathlib.Core.Bool.{true, false}
 use mathlib.Core.Option.{Option, none, some}
 use lib.IntN.{pos, negsuc}
 use Rattle.base.specs.Every.{Every}
+use Rattle.packet_spec.specs.Limits.{level}
 use Rattle.packet_spec.specs.Redundancy.{headers}
 use Rattle.packet_spec.specs.Reading.{reading}
 use Rattle.receiver_spec.specs.State.{freshReceiver, keeping}
@@ -158,5 +159,5 @@ rows =
     ∷ []
 
 pub holding-tests : Every Holds rows
-unfolding rows holdingStep reading headers
+unfolding rows holdingStep reading headers level
 holding-tests = ((refl, refl, (refl, refl, (refl, refl, (refl, refl, (refl, refl, (refl, refl, (refl, refl, (refl, refl, (refl, refl, (refl, refl, tt)))))))))), ((refl, refl, (refl, refl, (refl, refl, (refl, refl, (refl, refl, (refl, refl, (refl, refl, (refl, refl, tt)))))))), ((refl, refl, (refl, refl, tt)), ((refl, refl, (refl, refl, tt)), ((refl, refl, (refl, refl, (refl, refl, (refl, refl, (refl, refl, (refl, refl, tt)))))), ((refl, refl, (refl, refl, (refl, refl, (refl, refl, (refl, refl, tt))))), ((refl, refl, (refl, refl, (refl, refl, (refl, refl, (refl, refl, tt))))), ((refl, refl, (refl, refl, (refl, refl, (refl, refl, tt)))), ((refl, refl, (refl, refl, tt)), ((refl, refl, (refl, refl, (refl, refl, (refl, refl, (refl, refl, (refl, refl, (refl, refl, tt))))))), ((refl, refl, (refl, refl, tt)), tt)))))))))))

@@ -3,6 +3,7 @@ use Prim.Native.Nat.{ℕ, zero, suc}
 use mathlib.Core.Path.{_≡_, refl}
 use mathlib.Core.List.{List, [], _∷_, _++_}
 use lib.ListN.{replicate}
+use Rattle.packet_spec.specs.Limits.{level}
 use Rattle.packet_spec.specs.Redundancy.{headers}
 use Rattle.packet_spec.specs.Reading.{reading}
 use Rattle.receiver_spec.specs.Step.{stepOf}
@@ -86,7 +87,7 @@ rows =
     ∷ []
 
 pub journal-tests : Holds rows
-unfolding transcript journalOf limit contentsOf recordsUpTo stepOf reading headers
+unfolding transcript journalOf limit contentsOf recordsUpTo stepOf reading headers level
 journal-tests = (refl, (refl, (refl, (refl, (refl, (refl, (refl, (refl, (refl, (refl, (refl, (refl, (refl, (refl, (refl, (refl, (refl, (refl, (refl, (refl, (refl, tt)))))))))))))))))))))
 
 -- the line of counts

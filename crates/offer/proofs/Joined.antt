@@ -6,7 +6,7 @@ use native.Mathlib.Omega.{arith}
 use lib.ListN.{length, take, drop}
 use Rattle.sender_spec.specs.Limits.{roomSize}
 use Rattle.slots.specs.Slots.{slots, textsSize, roomOf, slotOf, slotText, waitingIn, overAt}
-use Rattle.slots.proofs.Slots.{room-slot, slot-other, slot-joined, other-stays}
+use Rattle.slots.proofs.Slots.{room-slot, slot-slot, slot-other, slot-joined, other-stays}
 use Rattle.offer.specs.Offer.{endOf}
 
 module _ (room len : ℕ) (texts x : List ℕ) (size : length texts ≡ textsSize) (fits : min len roomSize + length x ≤ roomSize) where
@@ -16,4 +16,4 @@ module _ (room len : ℕ) (texts x : List ℕ) (size : length texts ≡ textsSiz
       slot-joined (roomOf room) (min len roomSize) texts x size (room-slot room) fits ∙ ap (λ (n : ℕ). take n (drop (roomOf room * roomSize) texts) ++ x) e
 
   pub back-stays : (back n : ℕ) → 1 ≤ back → back < slots → slotText (overAt (endOf room len) x texts) (slotOf room back) n ≡ slotText texts (slotOf room back) n
-  back-stays back n h k = other-stays (roomOf room) (min len roomSize) texts x size (room-slot room) fits (slotOf room back) n (omega arith) (slot-other room back h k)
+  back-stays back n h k = other-stays (roomOf room) (min len roomSize) texts x size (room-slot room) fits (slotOf room back) n (slot-slot room back) (slot-other room back h k)

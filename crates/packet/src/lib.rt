@@ -111,7 +111,7 @@ pub struct Packet {
 
 impl Packet {
     // The highest number of older blocks.
-    pub const LEVEL: usize = 4;
+    pub const LEVEL: usize = 7;
     // The lengths of packets that are read.
     pub const SHORTEST: usize = 12;
 

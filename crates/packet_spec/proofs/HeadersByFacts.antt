@@ -27,7 +27,7 @@ pub none-left : (t n : ℕ) (got : List Head) → headers t n got [] ≡ bad 17
 none-left t n got = headers-is t n got []
 
 module _ (t : ℕ) (got : List Head) (b : ℕ) (bs : List ℕ) where
-  last-other : (n : ℕ) → b < 128 → (b ≡ t → ⊥) → headers t n got (b ∷ bs) ≡ bad 19
+  pub last-other : (n : ℕ) → b < 128 → (b ≡ t → ⊥) → headers t n got (b ∷ bs) ≡ bad 19
   last-other n h f = headers-is t n got (b ∷ bs) ∙ rw (lt-ltb b 128 h, ne-eqb b t f)
 
   pub last : (n : ℕ) → b < 128 → b ≡ t → headers t n got (b ∷ bs) ≡ heads got bs
@@ -37,7 +37,7 @@ module _ (t : ℕ) (got : List Head) (b : ℕ) (bs : List ℕ) where
     older : (n : ℕ) → headers t n got (b ∷ bs) ≡ olderHeader t n got (b ∷ bs)
     older n = headers-is t n got (b ∷ bs) ∙ rw (le-ltb b 128 h)
 
-    too-many : headers t 0 got (b ∷ bs) ≡ bad 18
+    pub too-many : headers t 0 got (b ∷ bs) ≡ bad 18
     too-many = older 0
 
     cut-short : (n : ℕ) → length (b ∷ bs) < 4 → headers t (suc n) got (b ∷ bs) ≡ bad 17

@@ -1,3 +1,4 @@
+pub mod Limits
 pub mod Payload
 pub mod Falling
 pub mod HeadersByFacts
@@ -7,4 +8,5 @@ pub mod BlockRuns
 pub mod BlocksLie
 pub mod RefusalNumbers
 pub mod ReadBack
+pub mod LastHeader
 pub mod TextBlocks

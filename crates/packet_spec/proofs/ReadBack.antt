@@ -27,11 +27,11 @@ abbrev pub LengthsFit : List Block → Type 0
 LengthsFit bs = Every (λ (b : Block). length (b .bytes) ≤ 1023) bs
 
 -- the headers that blocks are given
-abbrev headsFor : List Block → List Head
+abbrev pub headsFor : List Block → List Head
 headsFor [] = []
 headsFor (b ∷ bs) = record { offset = b .offset; len = length (b .bytes) } ∷ headsFor bs
 
-head-back : (t : ℕ) (b : Block) (rest : List ℕ) → length (b .bytes) ≤ 1023 → headOf (headBytes t b ++ rest) ≡ record { offset = b .offset; len = length (b .bytes) }
+pub head-back : (t : ℕ) (b : Block) (rest : List ℕ) → length (b .bytes) ≤ 1023 → headOf (headBytes t b ++ rest) ≡ record { offset = b .offset; len = length (b .bytes) }
 head-back t b rest h =
     let o = b .offset in
     let n = length (b .bytes) in

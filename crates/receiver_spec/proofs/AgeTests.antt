@@ -1,8 +1,10 @@
 -- Ages of older blocks (02, request 2), computed: packets of sequence number 6 and source 7, type RED 100 over T140 98.
-use Prim.Native.Nat.{ℕ, _*_, _/_, _%_}
+-- Needs level 4.
+use Prim.Native.Nat.{ℕ, zero, suc, _*_, _/_, _%_}
 use mathlib.Core.Path.{_≡_, refl}
 use mathlib.Core.List.{List, [], _∷_}
 use mathlib.Core.Bool.{true, false}
+use Rattle.packet_spec.specs.Limits.{level}
 use Rattle.packet_spec.specs.Redundancy.{headers, offsets}
 use Rattle.packet_spec.specs.Reading.{Read, holds, refused, reading}
 use Rattle.receiver_spec.specs.State.{Receiver, freshReceiver, readBy}
@@ -36,19 +38,24 @@ Holds (row ∷ rows) = (toldOf (readBy (row .receiver) (row .packet)) ≡ row .t
 abbrev of : ℕ → Receiver
 of source = record { t140 = 98; red = 100; hasSource = true; source = source; expected = 6; hasKept = false; kept = 0 }
 
-abbrev fresh : Receiver
+abbrev pub fresh : Receiver
 fresh = freshReceiver 98 100
 
 -- the fixed header
-abbrev packet : List ℕ → List ℕ
+abbrev pub packet : List ℕ → List ℕ
 packet payload = 0x80 ∷ 0x64 ∷ 0x00 ∷ 0x06 ∷ 0x00 ∷ 0x00 ∷ 0x00 ∷ 0x00 ∷ 0x00 ∷ 0x00 ∷ 0x00 ∷ 0x07 ∷ payload
 
 -- the header of an older block of one byte and this age, and what lies behind it
-abbrev aged : ℕ → List ℕ → List ℕ
+abbrev pub aged : ℕ → List ℕ → List ℕ
 aged n s = 0xE2 ∷ n / 64 ∷ n % 64 * 4 ∷ 0x01 ∷ s
 
+-- so many of them
+abbrev allAged : ℕ → ℕ → List ℕ → List ℕ
+allAged n zero s = s
+allAged n (suc k) s = aged n (allAged n k s)
+
 -- the primary's header, and blocks
-abbrev blocks : List ℕ → List ℕ
+abbrev pub blocks : List ℕ → List ℕ
 blocks s = 0x62 ∷ s
 
 abbrev letters : List ℕ
@@ -71,13 +78,13 @@ rows =
     ∷ row (of 7) (aged 300 (aged 600 letters)) (number 22)
     ∷ row fresh (aged 4 (aged 3 (aged 3 (aged 1 letters)))) (number 22)
     ∷ row fresh (aged 2 (aged 3 (aged 1 letters))) (number 22)
-    -- equal, and: two blocks of one byte in one byte; a block that is not text; a fifth header; another source
+    -- equal, and: two blocks of one byte in one byte; a block that is not text; a header too many; another source
     ∷ row fresh (aged 300 (aged 300 (blocks (0x41 ∷ [])))) (number 20)
     ∷ row fresh (aged 300 (aged 300 (blocks (0xFF ∷ 0x42 ∷ [])))) (number 22)
-    ∷ row fresh (aged 3 (aged 3 (aged 3 (aged 3 (aged 3 letters))))) (number 18)
+    ∷ row fresh (allAged 3 (suc level) letters) (number 18)
     ∷ row (of 8) (aged 300 (aged 300 letters)) (number 16)
     ∷ []
 
 pub age-tests : Holds rows
-unfolding rows stepOf reading headers
+unfolding rows stepOf reading headers level
 age-tests = (refl, refl, (refl, refl, (refl, refl, (refl, refl, (refl, refl, (refl, refl, (refl, refl, (refl, refl, (refl, refl, (refl, refl, (refl, refl, (refl, refl, (refl, refl, (refl, refl, tt))))))))))))))

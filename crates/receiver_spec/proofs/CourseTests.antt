@@ -6,6 +6,7 @@ use mathlib.Core.List.{List, [], _∷_}
 use mathlib.Core.Bool.{true, false}
 use lib.IntN.{pos, negsuc}
 use Rattle.base.specs.Every.{Every}
+use Rattle.packet_spec.specs.Limits.{level}
 use Rattle.packet_spec.specs.Redundancy.{headers}
 use Rattle.packet_spec.specs.Reading.{reading}
 use Rattle.delivery.specs.Numbers.{next}
@@ -35,7 +36,7 @@ Holds row = (answersTo (row .receiver) (row .packets) ≡ row .answers) × (left
 abbrev pub newest : ℕ → Receiver
 newest n = record { t140 = 98; red = 100; hasSource = true; source = 7; expected = next n; hasKept = false; kept = 0 }
 
--- a packet of this number; one of another source; and one of type RED with the older blocks `A` and `B`, primary `C`
+-- a packet of this number; one of another source; and one of type RED with the older block `A`, primary `B`
 abbrev pub from : ℕ → ℕ → ℕ → List ℕ → List ℕ
 from kind source n payload = 0x80 ∷ kind ∷ n / 256 ∷ n % 256 ∷ 0 ∷ 0 ∷ 0 ∷ 0 ∷ 0 ∷ 0 ∷ 0 ∷ source ∷ payload
 
@@ -45,8 +46,8 @@ packet n = from 0x62 7 n (0x41 ∷ [])
 abbrev stranger : List ℕ
 stranger = from 0x62 8 6 (0x41 ∷ [])
 
-abbrev three : ℕ → List ℕ
-three n = from 0x64 7 n (0xE2 ∷ 0x09 ∷ 0x60 ∷ 0x01 ∷ 0xE2 ∷ 0x04 ∷ 0xB0 ∷ 0x01 ∷ 0x62 ∷ 0x41 ∷ 0x42 ∷ 0x43 ∷ [])
+abbrev two : ℕ → List ℕ
+two n = from 0x64 7 n (0xE2 ∷ 0x04 ∷ 0xB0 ∷ 0x01 ∷ 0x62 ∷ 0x41 ∷ 0x42 ∷ [])
 
 -- a forward packet's answer, with its loss and its distance; and a break's
 abbrev forward : ℕ → ℕ → StepAnswer
@@ -85,11 +86,11 @@ rows =
     ∷ row (newest 40000) (packet 65535 ∷ packet 0 ∷ []) (isJump (pos 25534) ∷ break ∷ []) (newest 0)
     ∷ row (newest 40000) (packet 0 ∷ []) (isJump (pos 25535) ∷ []) (keeping (newest 40000) 1)
     -- a break gives all blocks
-    ∷ row (newest 5) (packet 10000 ∷ three 10001 ∷ [])
-    (isJump (pos 9994) ∷ isBreak (record { loss = 0; distance = pos 0; older = 2; given = 3; from = 21; to = 24 }) ∷ []) (newest 10001)
+    ∷ row (newest 5) (packet 10000 ∷ two 10001 ∷ [])
+    (isJump (pos 9994) ∷ isBreak (record { loss = 0; distance = pos 0; older = 1; given = 2; from = 17; to = 19 }) ∷ []) (newest 10001)
     ∷ []
 
 pub course-tests : Every Holds rows
-unfolding rows stepOf reading headers
+unfolding rows stepOf reading headers level
 course-tests =
     ((refl, refl), ((refl, refl), ((refl, refl), ((refl, refl), ((refl, refl), ((refl, refl), ((refl, refl), ((refl, refl), ((refl, refl), ((refl, refl), ((refl, refl), ((refl, refl), ((refl, refl), ((refl, refl), ((refl, refl), ((refl, refl), ((refl, refl), tt)))))))))))))))))

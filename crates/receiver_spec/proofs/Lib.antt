@@ -3,6 +3,7 @@ pub mod TextGiven
 pub mod GivenWithin
 pub mod Core
 pub mod AgeTests
+pub mod SevenTests
 pub mod CourseTests
 pub mod MarkTests
 pub mod OneEach

@@ -1,6 +1,6 @@
 -- The circle of slots: behind a packet, each block kept lies where it lay.
 use Prim.Native.Nat.{ℕ, zero, suc, _+_, _-_, _≤_, min}
-use mathlib.Core.Path.{_≡_, _∙_, refl, ap, sym}
+use mathlib.Core.Path.{_≡_, _∙_, refl, ap, sym, subst}
 use mathlib.Core.List.{List, [], _∷_}
 use native.Mathlib.Omega.{arith}
 use native.Mathlib.Numerals.{add-one}
@@ -9,6 +9,7 @@ use Rattle.packet_spec.specs.Limits.{level}
 use Rattle.sender_spec.specs.State.{SentBlock}
 use Rattle.slots.specs.Slots.{slots, textsSize, slotOf, onward, slotText, waitingIn, restKept}
 use Rattle.writer.specs.Draft.{blocksFrom, keptIn}
+use Rattle.packet_spec.proofs.Limits.{level-least}
 use Rattle.slots.proofs.Slots.{slot-on, slot-newest}
 use Rattle.slots.proofs.Rest.{rest-back}
 use Rattle.writer.proofs.KeptBlocks.{take-least}
@@ -39,11 +40,10 @@ module _ (texts : List ℕ) (room : ℕ) where
       λ i. record { text = e i; at = t } ∷ f i
 
 -- the circle: behind a packet what it took is block 0, and each block kept is one further back, in its slot; the oldest goes
-kept-on : (texts : List ℕ) (room len t count : ℕ) (lens ats : List ℕ)
-    → keptIn texts (onward room) (take level (len ∷ lens)) (take level (t ∷ ats)) (min count (level - 1) + 1)
-    ≡ take level (record { text = waitingIn texts room len; at = t } ∷ keptIn texts room lens ats count)
-kept-on texts room len t count lens ats =
-    let k = level - 1 in
+kept-on : (k : ℕ) → suc k ≡ level → (texts : List ℕ) (room len t count : ℕ) (lens ats : List ℕ)
+    → keptIn texts (onward room) (take (suc k) (len ∷ lens)) (take (suc k) (t ∷ ats)) (min count k + 1)
+    ≡ take (suc k) (record { text = waitingIn texts room len; at = t } ∷ keptIn texts room lens ats count)
+kept-on k most texts room len t count lens ats =
     let old = blocksFrom texts room 1 lens ats in
     let moved : blocksFrom texts (onward room) 2 (take k lens) (take k ats) ≡ take k old =
     blocks-on texts room 1 (take k lens) (take k ats) (omega (arith, length-take k lens)) ∙ blocks-take texts room k 1 lens ats in
@@ -60,5 +60,7 @@ pub kept-behind : (texts : List ℕ) (room len taken t count : ℕ) (lens ats : 
     → keptIn (restKept room len taken texts) (onward room) (take level (taken ∷ lens)) (take level (t ∷ ats)) (min count (level - 1) + 1)
     ≡ take level (record { text = waitingIn texts room taken; at = t } ∷ keptIn texts room lens ats count)
 kept-behind texts room len taken t count lens ats size =
+    let most : suc (level - 1) ≡ level = omega (arith, level-least) in
     ap (take (min count (level - 1) + 1)) (blocks-stay texts room len taken size 1 (take level (taken ∷ lens)) (take level (t ∷ ats)) (omega arith) (omega (arith, length-take level (taken ∷ lens))))
-    ∙ kept-on texts room taken t count lens ats
+    ∙ subst (λ (n : ℕ). keptIn texts (onward room) (take n (taken ∷ lens)) (take n (t ∷ ats)) (min count (level - 1) + 1)
+    ≡ take n (record { text = waitingIn texts room taken; at = t } ∷ keptIn texts room lens ats count)) most (kept-on (level - 1) most texts room taken t count lens ats)

@@ -1,8 +1,9 @@
 -- Cases of the sender, computed over the definitions.
-use Prim.Native.Nat.{ℕ}
+use Prim.Native.Nat.{ℕ, _+_}
 use mathlib.Core.Path.{_≡_, refl}
 use mathlib.Core.List.{List, [], _∷_, _++_}
 use lib.ListN.{replicate}
+use Rattle.packet_spec.specs.Limits.{level}
 use Rattle.packet_spec.specs.Redundancy.{headers}
 use Rattle.packet_spec.specs.Reading.{reading}
 use Rattle.sender_spec.specs.Settings.{settingsNumber}
@@ -27,21 +28,21 @@ s meets n = record { settings = s; answer = record { number = n; sender = zeroSe
 -- 1, 2, 3 and 9, in order
 unfoldable pub openings : List Opening
 openings =
-    typed 5 0 98 98 meets 1
-    ∷ typed 5 300 98 100 meets 1
-    ∷ typed 4 0 98 98 meets 2
-    ∷ typed 4 0 98 100 meets 2
-    ∷ typed 4 501 98 98 meets 2
-    ∷ typed 4 500 98 98 meets 3
-    ∷ typed 4 500 95 100 meets 3
-    ∷ typed 4 500 98 128 meets 3
-    ∷ rated 4 0 0 98 98 meets 2
-    ∷ rated 4 500 0 98 98 meets 3
-    ∷ rated 4 500 0 98 100 meets 9
-    ∷ rated 4 500 101 98 100 meets 9
-    ∷ rated 4 500 1 98 100 opens
-    ∷ rated 4 500 100 98 100 opens
-    ∷ typed 4 500 96 127 opens
+    typed (level + 1) 0 98 98 meets 1
+    ∷ typed (level + 1) 300 98 100 meets 1
+    ∷ typed level 0 98 98 meets 2
+    ∷ typed level 0 98 100 meets 2
+    ∷ typed level 501 98 98 meets 2
+    ∷ typed level 500 98 98 meets 3
+    ∷ typed level 500 95 100 meets 3
+    ∷ typed level 500 98 128 meets 3
+    ∷ rated level 0 0 98 98 meets 2
+    ∷ rated level 500 0 98 98 meets 3
+    ∷ rated level 500 0 98 100 meets 9
+    ∷ rated level 500 101 98 100 meets 9
+    ∷ rated level 500 1 98 100 opens
+    ∷ rated level 500 100 98 100 opens
+    ∷ typed level 500 96 127 opens
     ∷ typed 0 1 127 96 opens
     ∷ zeroSettings meets 2
     ∷ []
@@ -51,13 +52,13 @@ OpeningsHold [] = Unit {0}
 OpeningsHold (o ∷ os) = (openSender (o .settings) ≡ o .answer) × OpeningsHold os
 
 pub opening-tests : OpeningsHold openings
-unfolding openings openSender settingsNumber
+unfolding openings openSender settingsNumber level
 opening-tests = (refl, (refl, (refl, (refl, (refl, (refl, (refl, (refl, (refl, (refl, (refl, (refl, (refl, (refl, (refl, (refl, (refl, tt)))))))))))))))))
 
 -- offering: 5, 7, 6, 4, in order; the waiting room holds 160 bytes
 unfoldable pub offering : Case
 offering =
-    from (openedAt 2 300 100) (
+    from (openedAt 1 300 100) (
     clock 10 answers quiet
     ∷ offer 9 [] answers refused 5
     ∷ offer 9 (notText 161) answers refused 5
@@ -78,7 +79,7 @@ offering =
 -- the clock call: 5, then whether anything is due, then 8; quiet keeps the clock, 8 does not
 unfoldable pub clocking : Case
 clocking =
-    from (opened 2 300) (
+    from (opened 1 300) (
     clockIn 0 0 answers quiet
     ∷ offer 0 A answers accepted
     ∷ clockIn 500 13 answers refused 8
@@ -127,33 +128,6 @@ marker-text =
     ∷ []
     )
 
--- empty blocks count as blocks, at the highest level
-unfoldable pub empty-blocks : Case
-empty-blocks =
-    from (opened 4 300) (
-    offer 0 A answers accepted
-    ∷ clock 0 answers sent 14 (holding M 65535 1000 [] A)
-    ∷ clock 300 answers sent 18 (holding no-M 0 1300 (ago 300 A ∷ []) [])
-    ∷ clock 600 answers sent 22 (holding no-M 1 1600 (ago 600 A ∷ ago 300 [] ∷ []) [])
-    ∷ offer 600 B answers accepted
-    ∷ clock 900 answers sent 27 (holding M 2 1900 (ago 900 A ∷ ago 600 [] ∷ ago 300 [] ∷ []) B)
-    ∷ clock 1200 answers sent 31 (holding no-M 3 2200 (ago 1200 A ∷ ago 900 [] ∷ ago 600 [] ∷ ago 300 B ∷ []) [])
-    ∷ clock 1500 answers sent 30 (holding no-M 4 2500 (ago 1200 [] ∷ ago 900 [] ∷ ago 600 B ∷ ago 300 [] ∷ []) [])
-    ∷ []
-    )
-
--- a run ends before the first block that is too old
-unfoldable pub old-block : Case
-old-block =
-    from (opened 2 300) (
-    offer 0 A answers accepted
-    ∷ clock 0 answers sent 14 (holding M 65535 1000 [] A)
-    ∷ offer 16000 B answers accepted
-    ∷ clock 16000 answers sent 19 (holding M 0 17000 (ago 16000 A ∷ []) B)
-    ∷ clock 16384 answers sent 18 (holding no-M 1 17384 (ago 384 B ∷ []) [])
-    ∷ []
-    )
-
 -- nothing overflows at the end of the 64-bit clock
 unfoldable pub no-overflow : Case
 no-overflow =
@@ -177,9 +151,9 @@ zeros =
     ∷ []
     )
 
-pub case-tests : CasesHold (offering ∷ clocking ∷ marker-300 ∷ marker-301 ∷ marker-text ∷ empty-blocks ∷ old-block ∷ no-overflow ∷ zeros ∷ [])
-unfolding offering clocking marker-300 marker-301 marker-text empty-blocks old-block no-overflow zeros openSender offerOf clockOf settingsNumber reading headers
-case-tests = (refl, (refl, (refl, (refl, (refl, (refl, (refl, (refl, (refl, tt)))))))))
+pub case-tests : CasesHold (offering ∷ clocking ∷ marker-300 ∷ marker-301 ∷ marker-text ∷ no-overflow ∷ zeros ∷ [])
+unfolding offering clocking marker-300 marker-301 marker-text no-overflow zeros openSender offerOf clockOf settingsNumber reading headers level
+case-tests = (refl, (refl, (refl, (refl, (refl, (refl, (refl, tt)))))))
 
 -- Lent bytes: a sender, the clock of a call, and the bytes before and after it.
 
@@ -217,5 +191,5 @@ writings =
     ∷ []
 
 pub writing-tests : WritingsHold writings
-unfolding writings openSender offerOf clockOf settingsNumber
+unfolding writings openSender offerOf clockOf settingsNumber level
 writing-tests = (refl, (refl, (refl, (refl, (refl, (refl, tt))))))

@@ -1,5 +1,7 @@
 pub mod Tables
 pub mod CaseTests
+pub mod RepeatTests
+pub mod SevenTests
 pub mod RateTests
 pub mod Calls
 pub mod SettingsPass
@@ -12,5 +14,6 @@ pub mod StaysSendable
 pub mod Sizes
 pub mod Carried
 pub mod ReadsBack
+pub mod LongestWritten
 pub mod TextBytes
 pub mod PacketBytes

@@ -3,6 +3,7 @@ use Prim.Native.Nat.{ℕ, zero, suc}
 use mathlib.Core.Path.{_≡_, refl}
 use mathlib.Core.List.{List, [], _∷_, _++_}
 use lib.ListN.{replicate}
+use Rattle.packet_spec.specs.Limits.{level}
 use Rattle.packet_spec.specs.Redundancy.{headers}
 use Rattle.packet_spec.specs.Reading.{reading}
 use Rattle.sender_spec.specs.Settings.{settingsNumber}
@@ -122,14 +123,14 @@ at-the-end =
     )
 
 pub rate-tests : CasesHold (whole-letters ∷ held-1 ∷ held-2 ∷ by-parts ∷ repeats-on ∷ in-three ∷ behind-leftover ∷ short-space ∷ at-the-end ∷ [])
-unfolding whole-letters held-1 held-2 by-parts repeats-on in-three behind-leftover short-space at-the-end openSender offerOf clockOf settingsNumber reading headers
+unfolding whole-letters held-1 held-2 by-parts repeats-on in-three behind-leftover short-space at-the-end openSender offerOf clockOf settingsNumber reading headers level
 rate-tests = (refl, (refl, (refl, (refl, (refl, (refl, (refl, (refl, (refl, tt)))))))))
 
 -- a leftover counts as offered when the packet that left it was sent, text held back whole when it was
 pub leftover-time : after (after (openedAt 0 1 1) (offer 0 (letters 11))) (clock 5) .since ≡ 5
-unfolding openSender offerOf clockOf settingsNumber
+unfolding openSender offerOf clockOf settingsNumber level
 leftover-time = refl
 
 pub held-time : after (after (after (after (openedAt 1 300 1) (offer 0 (letters 10))) (clock 0)) (offer 7 B)) (clock 300) .since ≡ 7
-unfolding openSender offerOf clockOf settingsNumber
+unfolding openSender offerOf clockOf settingsNumber level
 held-time = refl

@@ -21,14 +21,14 @@ use Rattle.packet_spec.proofs.ReadBack.{plain-back, redundant-back}
 use Rattle.base.specs.Every.{Every}
 use Rattle.sender_spec.proofs.StaysSendable.{Sendable, Good, taken-good}
 use Rattle.sender_spec.proofs.SettingsPass.{settings-good}
-use Rattle.sender_spec.proofs.Sizes.{Short, plain-fits, packet-fits, lengths-fit}
+use Rattle.sender_spec.proofs.Sizes.{Short, plain-size, redundant-size, level-fits, lengths-fit}
 use Rattle.sender_spec.proofs.Carried.{Repeatable, older-few, older-good, older-fall}
 
 all-text : (bs : List Block) (x : List ℕ) → Every Repeatable bs → Sendable x → allText (blocksOf bs x) ≡ true
 all-text [] x e h = rw (h .0)
 all-text (b ∷ bs) x e h = rw (e .0 .0 .0) (all-text bs x (e .1) h)
 
-all-short : (bs : List Block) → Every Repeatable bs → Every Short bs
+pub all-short : (bs : List Block) → Every Repeatable bs → Every Short bs
 all-short [] e = tt
 all-short (b ∷ bs) e = (e .0 .0 .1, all-short bs (e .1))
 
@@ -48,7 +48,7 @@ module _ (s : Sender) (t : ℕ) (ok : settingsNumber (s .settings) ≡ 0) (g : G
     plain e =
         let none : contentOf s t .older ≡ [] = ap (λ (n : ℕ). map (repeated t) (reverse (recentRun t (take n (s .kept))))) (eqb-true (s .settings .level) 0 e) in
         plain-back level expected (s .settings .t140) (s .settings .red) (contentOf s t) types admits text none
-        (plain-fits (s .settings .t140) (contentOf s t) (taken-good s t g .1))
+        (le-trans (plain-size level (s .settings .t140) (contentOf s t) (taken-good s t g .1)) level-fits)
 
     redundant : ReadBack (redundantBytes (s .settings .t140) (s .settings .red) (contentOf s t))
     redundant =
@@ -57,7 +57,7 @@ module _ (s : Sender) (t : ℕ) (ok : settingsNumber (s .settings) ≡ 0) (g : G
         let short : Every Short older = all-short older (older-good s t g) in
         redundant-back level expected (s .settings .t140) (s .settings .red) (contentOf s t) types admits text few (lengths-fit older short)
         (older-fall s t ok g is-due)
-        (packet-fits level (omega arith) (s .settings .t140) (s .settings .red) (contentOf s t) few short (taken-good s t g .1))
+        (le-trans (redundant-size level (s .settings .t140) (s .settings .red) (contentOf s t) few short (taken-good s t g .1)) level-fits)
 
     pub reads-back : reading level expected (s .settings .t140) (s .settings .red) (packetBytes s t) ≡ holds (contentOf s t)
     reads-back = by-test ReadBack (eqb (s .settings .level) 0) plain (λ e. redundant)

@@ -22,7 +22,8 @@ bufferingBad b = zeroOrAbove longestBuffering b
 abbrev pub rateBad : ℕ → Bool
 rateBad r = zeroOrAbove highestRate r
 
--- "R above 4"; the buffering time; "payload types outside 96..127, or equal"; the rate
+-- R above the highest level ("refusal 1 then means above 7", 02); the buffering time; "payload types outside 96..127, or equal";
+-- the rate
 abbrev pub settingsChecks : Settings → List Check
 settingsChecks s =
     ltb level (s .level) gives 1

@@ -1,3 +1,4 @@
+pub mod Circle
 pub mod OverAt
 pub mod Slots
 pub mod Rest

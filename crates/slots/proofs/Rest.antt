@@ -9,7 +9,7 @@ use lib.Seq.{drop-drop}
 use Rattle.base.proofs.Fronts.{empty, drop-take}
 use Rattle.sender_spec.specs.Limits.{roomSize}
 use Rattle.slots.specs.Slots.{slots, textsSize, roomOf, slotOf, onward, slotText, waitingIn, overAt, restKept}
-use Rattle.slots.proofs.Slots.{onward-room, slot-other, waiting-length, slot-joined, other-stays}
+use Rattle.slots.proofs.Slots.{slot-slot, onward-slot, onward-room, slot-other, waiting-length, slot-joined, other-stays}
 use Rattle.slots.proofs.OverAt.{over-at-none, over-at-length}
 
 module _ (room len taken : ℕ) (texts : List ℕ) (size : length texts ≡ textsSize) where
@@ -35,13 +35,13 @@ module _ (room len taken : ℕ) (texts : List ℕ) (size : length texts ≡ text
   fits = omega (arith, rest-length)
 
   below : onward room < slots
-  below = omega arith
+  below = onward-slot room
 
   start : onward room * roomSize + 0 ≡ onward room * roomSize
   start = add-zero (onward room * roomSize)
 
   pub kept-length : length (restKept room len taken texts) ≡ textsSize
-  kept-length = over-at-length (onward room * roomSize) rest texts (omega (arith, fits)) ∙ size
+  kept-length = over-at-length (onward room * roomSize) rest texts (omega (arith, fits, below)) ∙ size
 
   pub waiting-rest : waitingIn (restKept room len taken texts) (onward room) (min len roomSize - taken) ≡ drop taken (waitingIn texts room len)
   waiting-rest =
@@ -53,4 +53,4 @@ module _ (room len taken : ℕ) (texts : List ℕ) (size : length texts ≡ text
 
   -- so many packets back in the circle as it stands behind the packet
   pub rest-back : (back n : ℕ) → 1 ≤ back → back < slots → slotText (restKept room len taken texts) (slotOf (onward room) back) n ≡ slotText texts (slotOf (onward room) back) n
-  rest-back back n h k = rest-other (slotOf (onward room) back) n (omega arith) (λ e. slot-other (onward room) back h k (e ∙ sym (onward-room room)))
+  rest-back back n h k = rest-other (slotOf (onward room) back) n (slot-slot (onward room) back) (λ e. slot-other (onward room) back h k (e ∙ sym (onward-room room)))

@@ -4,6 +4,7 @@ use mathlib.Core.Path.{_≡_, _∙_, refl, ap, sym}
 use mathlib.Core.List.{List, _++_}
 use mathlib.Core.Bool.{Bool, true, false}
 use native.Mathlib.Omega.{arith}
+use native.Mathlib.Nat.{mod-lt}
 use lib.Dec.{ltb, leb}
 use lib.ListN.{length, take, drop, length-take, length-drop}
 use borrow.Author.Tests.{lt-ltb, ltb-true, leb-true, leb-false}
@@ -12,6 +13,7 @@ use Rattle.packet_spec.specs.Limits.{level}
 use Rattle.sender_spec.specs.Limits.{roomSize}
 use Rattle.sender_spec.specs.State.{hasText}
 use Rattle.slots.specs.Slots.{slots, textsSize, roomOf, slotOf, onward, slotText, waitingIn, overAt}
+use Rattle.slots.proofs.Circle.{before-none, before-some, before-after}
 use Rattle.slots.proofs.OverAt.{over-at-before, over-at-behind, over-at-joins}
 
 pub room-slot : (room : ℕ) → roomOf room < slots
@@ -22,11 +24,11 @@ room-same room h = rw (lt-ltb room slots h)
 
 -- what waits lies no packet back
 pub slot-now : (room : ℕ) → slotOf room 0 ≡ roomOf room
-slot-now room = omega (arith, room-slot room)
+slot-now room = before-none slots (roomOf room) (room-slot room)
 
 -- and the blocks kept in other slots
 pub slot-other : (room back : ℕ) → 1 ≤ back → back < slots → slotOf room back ≡ roomOf room → ⊥
-slot-other room back h k e = let b : roomOf room < slots = room-slot room in omega arith
+slot-other room back h k e = before-some slots (roomOf room) (room-slot room) back h k e
 
 -- a slot lies within the texts
 module _ (texts : List ℕ) (whole : length texts ≡ textsSize) where
@@ -43,18 +45,19 @@ module _ (texts : List ℕ) (whole : length texts ≡ textsSize) where
       go zero = refl
       go (suc n) = lt-ltb 0 (min (suc n) roomSize) (omega arith) ∙ sym (lt-ltb 0 (suc n) (omega arith))
 
--- the slot behind is one of the circle
+-- the slots back and the one behind are of the circle
+pub slot-slot : (room back : ℕ) → slotOf room back < slots
+slot-slot room back = mod-lt (roomOf room + slots - back) (omega arith)
+
+pub onward-slot : (room : ℕ) → onward room < slots
+onward-slot room = mod-lt (roomOf room + 1) (omega arith)
+
 pub onward-room : (room : ℕ) → roomOf (onward room) ≡ onward room
-onward-room room = room-same (onward room) (omega arith)
+onward-room room = room-same (onward room) (onward-slot room)
 
 pub slot-on : (room back : ℕ) → back ≤ level → slotOf (onward room) (suc back) ≡ slotOf room back
 slot-on room back h =
-    let r = roomOf room in
-    let b : r < slots = room-slot room in
-    ap (λ (n : ℕ). (n + slots - suc back) % slots) (onward-room room) ∙ go r b
-  where
-    go : (r : ℕ) → r < slots → ((r + 1) % slots + slots - suc back) % slots ≡ (r + slots - back) % slots
-    go r b = omega arith
+    ap (λ (n : ℕ). (n + slots - suc back) % slots) (onward-room room) ∙ before-after slots (roomOf room) (room-slot room) back (omega arith)
 
 pub slot-newest : (room : ℕ) → slotOf (onward room) 1 ≡ roomOf room
 slot-newest room = slot-on room 0 (omega arith) ∙ slot-now room

@@ -1,16 +1,12 @@
 -- The texts in the slots, by how many packets back they lie.
-use Prim.Native.Nat.{ℕ, _<_, min}
+use Prim.Native.Nat.{ℕ, min}
 use mathlib.Core.Path.{_≡_, ap}
 use mathlib.Core.List.{List}
-use native.Mathlib.Omega.{arith}
 use lib.ListN.{length}
 use Rattle.sender_spec.specs.Limits.{roomSize}
-use Rattle.slots.specs.Slots.{slots, slotOf, slotText, waitingIn, textsSize}
+use Rattle.slots.specs.Slots.{slotOf, slotText, waitingIn, textsSize}
 use Rattle.writer.specs.internal.Parts.{waitingAt}
-use Rattle.slots.proofs.Slots.{slot-now, text-length}
-
-pub slot-slot : (room back : ℕ) → slotOf room back < slots
-slot-slot room back = omega arith
+use Rattle.slots.proofs.Slots.{slot-now, slot-slot, text-length}
 
 pub waiting-at : (texts : List ℕ) (room len : ℕ) → waitingAt texts room len ≡ waitingIn texts room len
 waiting-at texts room len = ap (λ (s : ℕ). slotText texts s len) (slot-now room)

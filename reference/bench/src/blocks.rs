@@ -7,6 +7,7 @@ use crate::reading::{independent, proved};
 use compare::plan::{Plan, LONGEST, RED, T140};
 use compare::random::Random;
 use compare::say;
+use stewpigeon::Packet;
 
 /// The packets of a kind at most, and how often a round reads them.
 const MOST: usize = 8000;
@@ -17,11 +18,19 @@ fn kind(name: &str, letters: usize, packet: impl Fn(&mut Random) -> Vec<u8> + 's
     Kind::new(name, letters, MOST.min(LETTERS / letters), packet)
 }
 
-/// RED with older blocks and a primary, all of so many letters.
-fn red(random: &mut Random, older: u16, mix: Mix, letters: usize) -> Vec<u8> {
+/// RED with older blocks and a primary, all of so many letters; none where so
+/// many older blocks are not read.
+fn red(name: &str, older: usize, mix: Mix, letters: usize) -> Option<Kind> {
+    let packet = move |random: &mut _| red_packet(random, older, mix, letters);
+    let packets = kind(name, (older + 1) * letters, packet);
+    (older <= Packet::LEVEL).then_some(packets)
+}
+
+fn red_packet(random: &mut Random, older: usize, mix: Mix, letters: usize) -> Vec<u8> {
     let mut plan = Plan::new(random, RED);
     for age in (1..=older).rev() {
-        plan.older.push((300 * age, mix.text(random, letters)));
+        plan.older
+            .push((300 * age as u16, mix.text(random, letters)));
     }
     plan.primary = mix.text(random, letters);
     plan.bytes()
@@ -38,18 +47,17 @@ pub fn kinds() -> Vec<Kind> {
     let mut kinds = vec![];
     for (name, mix) in Mix::some(&["ascii", "two-byte", "one-in-10"]) {
         for letters in [1, 6, 40, 160] {
-            let name = format!("{name}-{letters}");
-            let packet = move |random: &mut _| red(random, 2, mix, letters);
-            kinds.push(kind(&name, 3 * letters, packet));
+            kinds.extend(red(&format!("{name}-{letters}"), 2, mix, letters));
         }
     }
-    for (name, mix, letters) in [
-        ("five-ascii", Mix::Ascii, 150),
-        ("five-euro", Mix::Repeated("aa€"), 90),
-        ("five-two-byte", Mix::Repeated("é"), 75),
+    for (name, older, mix, letters) in [
+        ("five-ascii", 4, Mix::Ascii, 150),
+        ("five-euro", 4, Mix::Repeated("aa€"), 90),
+        ("five-two-byte", 4, Mix::Repeated("é"), 75),
+        ("most-ascii", Packet::LEVEL, Mix::Ascii, 150),
+        ("most-two-byte", Packet::LEVEL, Mix::Repeated("é"), 75),
     ] {
-        let packet = move |random: &mut _| red(random, 4, mix, letters);
-        kinds.push(kind(name, 5 * letters, packet));
+        kinds.extend(red(name, older, mix, letters));
     }
     kinds.push(kind("bad-end", LONGEST - 13, bad));
     kinds
@@ -81,7 +89,9 @@ pub fn times() {
     say!(
         "READING by kind of letter: stewpigeon_read beside independent Rust, ns per packet\n\
          and per letter: RED with 2 older blocks and a primary of 1, 6, 40 and 160 letters,\n\
-         RED with 4 and a primary of 150 bytes, T140 of {LONGEST} bytes of which the last is bad\n"
+         RED with 4 and with {} and a primary of 150 bytes, T140 of {LONGEST} bytes of which\n\
+         the last is bad\n",
+        Packet::LEVEL
     );
     say!(
         "{:<14}{:>8}{:>7}{:>8}{:>9}{:>9}{:>9}{:>9}{:>8}",

@@ -13,10 +13,11 @@ mod sending;
 mod stepping;
 mod texts;
 
+use std::collections::BTreeSet;
 use std::env;
 use std::process::ExitCode;
 
-use compare::say;
+use compare::{level, say};
 use contest::ROUNDS;
 use inputs::{named, SEED};
 use schedule::Schedule;
@@ -37,8 +38,8 @@ usage: bench
        bench offers|sending|quiet LEVEL TIMES
        bench text|read KIND TIMES
        bench step|holding line TIMES
-LEVEL is 0 to 4. KIND is the first word of a row that `bench texts` prints; for
-read also mixed and line.";
+LEVEL is a repeat level, up to the highest. KIND is the first word of a row that
+`bench texts` prints; for read also mixed and line.";
 
 fn schedule((pace, calls): (u64, u64)) -> Schedule {
     Schedule::new(SEED, pace, calls)
@@ -51,17 +52,26 @@ fn timed(parts: &[fn()]) {
     }
 }
 
+/// Times what is made of inputs, if their packets are read.
+fn part<T>(name: &str, inputs: Option<T>, times: fn(&T)) {
+    match inputs {
+        Some(inputs) => times(&inputs),
+        None => say!("{name}: left out, its packets need a higher level\n"),
+    }
+}
+
 fn reading() {
-    reading::packets(&packets::mixed(SEED, TIMED));
-    stepping::steps(&packets::line(SEED, TIMED));
+    part("READING", packets::mixed(SEED, TIMED), reading::packets);
+    part("RECEIVING", packets::line(SEED, TIMED), stepping::steps);
 }
 
 fn holding() {
-    holding::steps(&packets::reordered(SEED, TIMED));
+    part("HOLDING", packets::reordered(SEED, TIMED), holding::steps);
 }
 
 fn sending() {
-    for level in [2, Sender::LEVEL] {
+    let levels = BTreeSet::from([2, 4, Sender::LEVEL]);
+    for level in levels.into_iter().filter(|level| *level <= Sender::LEVEL) {
         for pace in [OFTEN, SELDOM] {
             for rate in [Settings::HIGHEST_RATE, Settings::RATE] {
                 let schedule = &schedule(pace);
@@ -94,8 +104,8 @@ fn sends(kind: &str, level: &str, times: usize) -> Option<usize> {
 /// Reads packets of one kind, so many times over.
 fn reads(kind: &str, times: usize) -> Option<usize> {
     let packets = match kind {
-        "mixed" => packets::mixed(SEED, COUNTED),
-        "line" => packets::line(SEED, COUNTED),
+        "mixed" => packets::mixed(SEED, COUNTED)?,
+        "line" => packets::line(SEED, COUNTED)?,
         _ => named(kind, blocks::kinds())?.inputs(),
     };
     Some(reading::repeated(&packets, times))
@@ -103,13 +113,13 @@ fn reads(kind: &str, times: usize) -> Option<usize> {
 
 /// Gives a receiver the packets of a line, so many times over.
 fn steps(kind: &str, times: usize) -> Option<usize> {
-    let packets = (kind == "line").then(|| packets::line(SEED, COUNTED))?;
+    let packets = (kind == "line").then(|| packets::line(SEED, COUNTED))??;
     Some(stepping::repeated(&packets, times))
 }
 
 /// The same with a receiver that holds.
 fn holds(kind: &str, times: usize) -> Option<usize> {
-    let arrivals = (kind == "line").then(|| packets::reordered(SEED, COUNTED))?;
+    let arrivals = (kind == "line").then(|| packets::reordered(SEED, COUNTED))??;
     Some(holding::repeated(&arrivals, times))
 }
 
@@ -127,6 +137,10 @@ fn repeated(calls: &str, of: &str, times: &str) -> Option<usize> {
 }
 
 fn main() -> ExitCode {
+    if let Err(why) = level::check() {
+        eprintln!("bench: {why}");
+        return ExitCode::FAILURE;
+    }
     let words: Vec<String> = env::args().skip(1).collect();
     let words: Vec<&str> = words.iter().map(String::as_str).collect();
     match words[..] {

@@ -1,22 +1,28 @@
-//! Packets as they come: of all kinds, and of one line.
+//! Packets as they come: of all kinds, and of one line; none where their older
+//! blocks are more than are read.
 
 use crate::inputs::Inputs;
 use crate::letters::letter;
 use compare::damage::mutate;
 use compare::plan::{Plan, RED, T140};
 use compare::random::Random;
+use stewpigeon::Packet;
+
+/// The older blocks of a typed RED packet, and the most of a longer one.
+const TYPED: usize = 2;
+const LONGER: usize = 4;
 
 /// Packets that have nothing to do with each other.
-pub fn mixed(seed: u64, count: usize) -> Inputs {
+pub fn mixed(seed: u64, count: usize) -> Option<Inputs> {
     let mut random = Random::new(seed);
-    Inputs::of(count, || packet(&mut random))
+    (LONGER <= Packet::LEVEL).then(|| Inputs::of(count, || packet(&mut random)))
 }
 
 /// Packets of one line, in the order of arrival.
-pub fn line(seed: u64, count: usize) -> Inputs {
+pub fn line(seed: u64, count: usize) -> Option<Inputs> {
     let mut random = Random::new(seed);
     let mut number = 65_000;
-    Inputs::of(count, || arrival(&mut random, &mut number))
+    (TYPED <= Packet::LEVEL).then(|| Inputs::of(count, || arrival(&mut random, &mut number)))
 }
 
 /// Packets of one line that change places on their way, and when each of them
@@ -34,7 +40,10 @@ impl Arrivals {
 
 /// So many arrivals of a line that sends every 300 ms. Of 100 packets 3 are
 /// lost and 10 come 100 to 1,500 ms later than the others.
-pub fn reordered(seed: u64, count: usize) -> Arrivals {
+pub fn reordered(seed: u64, count: usize) -> Option<Arrivals> {
+    if TYPED > Packet::LEVEL {
+        return None;
+    }
     let mut random = Random::new(seed);
     let mut arrivals = vec![];
     let mut sent = 0;
@@ -54,7 +63,7 @@ pub fn reordered(seed: u64, count: usize) -> Arrivals {
         let number = numbers.next().expect("as many numbers");
         numbered(&mut random, number as u16)
     });
-    Arrivals { packets, clocks }
+    Some(Arrivals { packets, clocks })
 }
 
 /// A packet of a line: 60 in 100 typed RED, 35 T140, 5 damaged so that they
@@ -133,8 +142,8 @@ fn plain(random: &mut Random) -> Plan {
 /// RED with two older blocks, each block of 0 to 6 letters.
 fn typed(random: &mut Random) -> Plan {
     let mut plan = Plan::new(random, RED);
-    for offset in [600, 300] {
-        plan.older.push((offset, letters(random, 6)));
+    for age in (1..=TYPED).rev() {
+        plan.older.push((300 * age as u16, letters(random, 6)));
     }
     plan.primary = letters(random, 6);
     plan
@@ -148,7 +157,7 @@ fn longer(random: &mut Random) -> Plan {
         return plan;
     }
     let mut plan = Plan::new(random, RED);
-    for older in (1..=random.within(2, 4)).rev() {
+    for older in (1..=random.within(2, LONGER)).rev() {
         plan.older.push((300 * older as u16, letters(random, 150)));
     }
     plan.primary = letters(random, 150);

@@ -9,7 +9,7 @@ use compare::say;
 use independent::sender::{Clocked, Sender, Settings};
 use stewpigeon::lent;
 
-const SPACE: usize = 829;
+const SPACE: usize = stewpigeon::Sender::LONGEST_PACKET;
 
 fn settings(level: usize, rate: usize) -> Settings {
     Settings {
@@ -52,7 +52,7 @@ fn proved_open(line: &Line<'_>) -> Proved {
     let settings = library_settings(&settings(line.level, line.rate));
     let mut sender = Proved {
         record: lent::Sender::ZERO,
-        texts: [0; 800],
+        texts: [0; size_of::<lent::Texts>()],
         log: Box::new([0; 1000]),
     };
     let number = lent::sender_open(&mut sender.record, &mut sender.texts, settings);

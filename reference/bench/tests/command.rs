@@ -1,5 +1,8 @@
 use std::process::Command;
 
+use independent::left_out;
+use stewpigeon::{Packet, Sender};
+
 fn bench(arguments: &[&str]) -> Command {
     let mut command = Command::new(env!("CARGO_BIN_EXE_bench"));
     command.args(arguments);
@@ -8,12 +11,13 @@ fn bench(arguments: &[&str]) -> Command {
 
 #[test]
 fn usage() {
+    let above = (Sender::LEVEL + 1).to_string();
     for arguments in [
         &["quiet"][..],
-        &["quiet", "5", "1"],
+        &["quiet", &above, "1"],
         &["quiet", "-1", "1"],
-        &["quiet", "4", "once"],
-        &["loud", "4", "1"],
+        &["quiet", "1", "once"],
+        &["loud", "1", "1"],
         &["text"],
         &["text", "ascii"],
         &["text", "ascii", "once"],
@@ -40,8 +44,9 @@ fn usage() {
 
 #[test]
 fn calls_of_one_kind() {
-    for level in ["0", "4"] {
-        let output = bench(&["quiet", level, "1"]).output().unwrap();
+    for level in [0, 1, Sender::LEVEL] {
+        let level = level.to_string();
+        let output = bench(&["quiet", &level, "1"]).output().unwrap();
         assert_eq!(output.status.code(), Some(0));
         assert_eq!(output.stdout, b"200\n");
     }
@@ -77,27 +82,40 @@ fn texts_of_one_kind() {
     assert_eq!(count("text", "bad-end"), "198585\n");
 }
 
+/// Packets with so many older blocks, of which there are so many; no such kind
+/// where they are not read.
+fn packets(calls: &str, kind: &str, older: usize, packets: usize) {
+    if !left_out(&format!("{calls} {kind}"), older) {
+        assert_eq!(count(calls, kind), format!("{packets}\n"), "{calls} {kind}");
+        return;
+    }
+    let output = bench(&[calls, kind, "2"]).output().unwrap();
+    assert_eq!(output.status.code(), Some(2), "{calls} {kind}");
+}
+
 #[test]
 fn packets_of_one_kind() {
-    for kind in ["mixed", "line"] {
-        assert_eq!(count("read", kind), "20000\n", "{kind}");
-    }
-    for calls in ["step", "holding"] {
-        assert_eq!(count(calls, "line"), "20000\n", "{calls}");
+    packets("read", "mixed", 4, 20_000);
+    for calls in ["read", "step", "holding"] {
+        packets(calls, "line", 2, 20_000);
     }
     for mix in ["ascii", "one-in-10", "two-byte"] {
-        for (letters, packets) in [(1, 8000), (6, 8000), (40, 1666), (160, 416)] {
-            let kind = format!("{mix}-{letters}");
-            assert_eq!(count("read", &kind), format!("{packets}\n"), "{kind}");
+        for (letters, count) in [(1, 8000), (6, 8000), (40, 1666), (160, 416)] {
+            packets("read", &format!("{mix}-{letters}"), 2, count);
         }
     }
-    for (kind, packets) in [
-        ("five-ascii", 266),
-        ("five-euro", 444),
-        ("five-two-byte", 533),
-        ("bad-end", 137),
+    for (kind, older, count) in [
+        ("five-ascii", 4, 266),
+        ("five-euro", 4, 444),
+        ("five-two-byte", 4, 533),
+        ("bad-end", 0, 137),
     ] {
-        assert_eq!(count("read", kind), format!("{packets}\n"), "{kind}");
+        packets("read", kind, older, count);
+    }
+    let blocks = Packet::LEVEL + 1;
+    for (kind, letters) in [("most-ascii", 150), ("most-two-byte", 75)] {
+        let count = 200_000 / (blocks * letters);
+        packets("read", kind, Packet::LEVEL, count);
     }
 }
 

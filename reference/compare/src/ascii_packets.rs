@@ -3,11 +3,11 @@
 
 use std::ops::Range;
 
-use crate::check::{Case, Known};
+use crate::check::Case;
 use crate::letters::{ascii, lay, Letter, BYTES, CUT, WHOLE};
 use crate::plan::{Plan, RED, T140};
 use crate::random::Random;
-use independent::offsets;
+use independent::{offsets, LEVEL};
 use stewpigeon::lent;
 
 /// A good packet of ASCII, over which letters are laid.
@@ -48,9 +48,9 @@ impl Base {
         let mut all = vec![];
         for length in 60..=200 {
             let counts = match length {
-                63..=65 | 127..=129 => 0..=4,
+                63..=65 | 127..=129 => 0..=LEVEL,
                 _ => {
-                    let count = random.below(5);
+                    let count = random.within(0, LEVEL);
                     count..=count
                 }
             };
@@ -76,7 +76,7 @@ impl Base {
         let mut case = self.bad(random, place, letter.bytes);
         let holds = |block: &Range<usize>| block.start <= place && end <= block.end;
         if self.blocks.iter().any(holds) {
-            case.known = Known::Answer(self.answer);
+            case.known = Some(Ok(self.answer));
         }
         Some(case)
     }

@@ -1,7 +1,7 @@
 //! Packets of another maker's sender, and what is known of them.
 
 use crate::check::hex;
-use independent::Packet;
+use independent::{Packet, LEVEL};
 
 const RED_WITH_STUN: &str = include_str!("../../captures/ms2_red_typed1.hex");
 const RED_ALONE: &str = include_str!("../../captures/ms2_red_typed1_rtponly.hex");
@@ -72,13 +72,13 @@ fn spelled(packets: &[Packet<'_>]) -> Vec<u8> {
 fn repeats(packets: &[Packet<'_>]) -> Result<(), String> {
     for (place, packet) in packets.iter().enumerate() {
         let count = packet.older().len();
-        for (k, older) in packet.older().iter().enumerate() {
+        for (k, older) in packet.older().enumerate() {
             let Some(earlier) = place.checked_sub(count - k) else {
                 continue;
             };
             let earlier = &packets[earlier];
             let offset = packet.timestamp.wrapping_sub(earlier.timestamp);
-            if packet.block(older) != earlier.primary() || u32::from(older.offset) != offset {
+            if packet.block(&older) != earlier.primary() || u32::from(older.offset) != offset {
                 return Err(format!("packet {place} does not repeat block {k}"));
             }
         }
@@ -91,6 +91,14 @@ fn demand(holds: bool, what: &str) -> Result<(), String> {
         true => Ok(()),
         false => Err(format!("not so: {what}")),
     }
+}
+
+/// The older blocks in each packet of the captures with redundancy.
+const REPEATED: usize = 2;
+
+/// What is not checked where so many older blocks are not read.
+pub fn left_out() -> Option<&'static str> {
+    (LEVEL < REPEATED).then_some("what is known of the captures with redundancy")
 }
 
 /// Checks what the captures' makers say of them.
@@ -107,14 +115,33 @@ pub fn facts() -> Result<(), String> {
         let refusal = independent::read(None, 98, 100, stun).err();
         demand(refusal == Some(12), "STUN requests are refusal 12")?;
     }
-
-    let first = independent::read(None, 98, 100, &alone[0]).err();
+    let read = read_all(&t140[2..])?;
     demand(
-        alone[0][12..20] == TWICE_300 && first == Some(22),
+        spelled(&read) == TYPED.as_bytes(),
+        "the primaries of T140 spell the text",
+    )?;
+    demand(
+        read.iter().all(|packet| packet.older().len() == 0),
+        "no older blocks",
+    )?;
+    // Packets are counted from 0.
+    let kept = [0, 1, 2, 5, 6, 7, 8, 13, 14].map(|place| alone[place].clone());
+    demand(lossy() == kept, "packets 3, 4 and 9 to 12 are left out")?;
+    match left_out() {
+        Some(_) => Ok(()),
+        None => redundant(&alone),
+    }
+}
+
+/// The same of the packets with redundancy.
+fn redundant(packets: &[Vec<u8>]) -> Result<(), String> {
+    let first = independent::read(None, 98, 100, &packets[0]).err();
+    demand(
+        packets[0][12..20] == TWICE_300 && first == Some(22),
         "the first packet's ages are 300 twice, refusal 22",
     )?;
     // With its oldest block dated 600 ms back it is read like the others.
-    let mut dated = alone.clone();
+    let mut dated = packets.to_vec();
     dated[0][13..15].copy_from_slice(&[0x09, 0x60]);
     let read = read_all(&dated)?;
     demand(
@@ -124,18 +151,7 @@ pub fn facts() -> Result<(), String> {
     for (place, packet) in read.iter().enumerate() {
         let sequence = 65533u16.wrapping_add(place as u16);
         demand(packet.sequence == sequence, "sequence numbers from 65,533")?;
-        demand(packet.older().len() == 2, "two older blocks each")?;
+        demand(packet.older().len() == REPEATED, "two older blocks each")?;
     }
-    repeats(&read)?;
-
-    let read = read_all(&t140[2..])?;
-    demand(spelled(&read) == TYPED.as_bytes(), "so do those of T140")?;
-    demand(
-        read.iter().all(|packet| packet.older().is_empty()),
-        "no older blocks",
-    )?;
-
-    // Packets are counted from 0.
-    let kept = [0, 1, 2, 5, 6, 7, 8, 13, 14].map(|place| alone[place].clone());
-    demand(lossy() == kept, "packets 3, 4 and 9 to 12 are left out")
+    repeats(&read)
 }

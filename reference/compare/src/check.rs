@@ -9,13 +9,8 @@ use crate::random::Random;
 use independent::Contents;
 use stewpigeon::lent;
 
-/// What is known beforehand of a result.
-#[derive(Clone, Copy, Debug, PartialEq, Eq)]
-pub enum Known {
-    Nothing,
-    Refusal(u8),
-    Answer(lent::Packet),
-}
+/// What is known beforehand of a result: the answer, the refusal, or nothing.
+pub type Known = Option<Result<lent::Packet, u8>>;
 
 /// A packet and the settings it is read with.
 #[derive(Clone)]
@@ -42,15 +37,15 @@ impl Case {
     }
 
     pub fn accepted(random: &mut Random, plan: &Plan) -> Case {
-        Case::new(random, plan.bytes(), Known::Answer(plan.answer()))
+        Case::new(random, plan.bytes(), Some(Ok(plan.answer())))
     }
 
     pub fn refused(random: &mut Random, packet: Vec<u8>, refusal: u8) -> Case {
-        Case::new(random, packet, Known::Refusal(refusal))
+        Case::new(random, packet, Some(Err(refusal)))
     }
 
     pub fn open(random: &mut Random, packet: Vec<u8>) -> Case {
-        Case::new(random, packet, Known::Nothing)
+        Case::new(random, packet, None)
     }
 }
 
@@ -71,9 +66,9 @@ pub fn hex(bytes: &[u8]) -> String {
 }
 
 /// The library's answer to a packet that holds this.
-pub fn answer(contents: &Contents<'_>) -> lent::Packet {
-    let mut older = [lent::Block::ZERO; 4];
-    for (block, place) in older.iter_mut().zip(contents.older) {
+pub fn answer(contents: &Contents) -> lent::Packet {
+    let mut older = lent::Packet::ZERO.older;
+    for (block, place) in older.iter_mut().zip(&contents.older) {
         *block = lent::Block {
             offset: place.offset,
             at: place.start.into(),
@@ -99,8 +94,16 @@ fn independently(case: &Case) -> Result<lent::Packet, u8> {
     read.map(|packet| answer(&packet.contents()))
 }
 
-/// Gives a case to both readers and gives the number both answered.
-pub fn check(random: &mut Random, case: &Case) -> Result<u8, Difference> {
+/// What both readers answered.
+pub struct Read {
+    /// The refusal's number; 0 where the packet is accepted.
+    pub number: u8,
+    /// How many older blocks it has then.
+    pub older: usize,
+}
+
+/// Gives a case to both readers, and gives what both answered.
+pub fn check(random: &mut Random, case: &Case) -> Result<Read, Difference> {
     let wanted = independently(case);
     let packet = Lent::new(random, &case.packet);
     let mut lent = filled(random);
@@ -117,11 +120,7 @@ pub fn check(random: &mut Random, case: &Case) -> Result<u8, Difference> {
         0 => Ok(lent.value()),
         refusal => Err(refusal),
     };
-    let known = match case.known {
-        Known::Nothing => true,
-        Known::Refusal(refusal) => wanted == Err(refusal),
-        Known::Answer(answer) => wanted == Ok(answer),
-    };
+    let known = case.known.is_none_or(|known| known == wanted);
     let what = if proved != wanted {
         "the answers differ"
     } else if number != 0 && lent.bytes() != before.1.bytes() {
@@ -133,7 +132,8 @@ pub fn check(random: &mut Random, case: &Case) -> Result<u8, Difference> {
     } else if !known {
         "both readers agree, but not with what is known of the packet"
     } else {
-        return Ok(number);
+        let older = proved.map_or(0, |packet| packet.count);
+        return Ok(Read { number, older });
     };
     let details = format!(
         "packet ({} bytes): {}\n\

@@ -1,30 +1,39 @@
 //! The kinds of generated packets. Each call of a kind gives one batch.
 
-use crate::check::{Case, Known};
+use crate::check::Case;
 use crate::damage;
 use crate::plan::{Plan, LONGEST, RED, T140};
 use crate::random::Random;
 use crate::{ascii_packets, captures, shapes};
-use independent::offsets;
+use independent::{offsets, LEVEL};
 
 pub struct Kind {
     pub name: &'static str,
     pub batch: fn(&mut Random) -> Vec<Case>,
+    /// Answers that it must meet; 0 is acceptance.
+    pub answers: &'static [u8],
 }
 
 const fn kind(name: &'static str, batch: fn(&mut Random) -> Vec<Case>) -> Kind {
-    Kind { name, batch }
+    Kind {
+        name,
+        batch,
+        answers: &[],
+    }
 }
 
 pub const KINDS: [Kind; 25] = [
     kind("valid T140", valid_t140),
-    kind("valid RED, 0 to 4 older blocks", valid_red),
+    kind("valid RED, all numbers of older blocks", valid_red),
     kind("mutated", mutated),
     kind("cut at every length", cut),
     kind("boundary sizes", boundary_sizes),
     kind("padding", shapes::padding),
     kind("source lists and extensions", shapes::lists_and_extensions),
-    kind("fifth block header", shapes::fifth_header),
+    Kind {
+        answers: &[0, 17, 18, 19],
+        ..kind("behind the last block header", shapes::last_header)
+    },
     kind("wrong block types", shapes::wrong_block_types),
     kind("lengths passing the end", shapes::lengths_passing_the_end),
     kind("impossible ages", shapes::impossible_ages),
@@ -50,7 +59,7 @@ fn valid_t140(random: &mut Random) -> Vec<Case> {
 }
 
 fn valid_red(random: &mut Random) -> Vec<Case> {
-    let count = random.below(5);
+    let count = random.within(0, LEVEL);
     let plan = Plan::red(random, count);
     vec![Case::accepted(random, &plan)]
 }
@@ -86,16 +95,16 @@ fn boundary_sizes(random: &mut Random) -> Vec<Case> {
         cases.push(Case::accepted(random, &plan));
     }
     for length in [1471, LONGEST] {
-        let count = random.below(5);
+        let count = random.within(0, LEVEL);
         let mut plan = Plan::small_red(random, count);
         plan.primary = random.text(length - plan.bytes().len() + plan.primary.len());
         cases.push(Case::accepted(random, &plan));
         plan.primary.push(b'a');
         let known = match length {
-            1471 => Known::Answer(plan.answer()),
-            _ => Known::Refusal(11),
+            1471 => Ok(plan.answer()),
+            _ => Err(11),
         };
-        cases.push(Case::new(random, plan.bytes(), known));
+        cases.push(Case::new(random, plan.bytes(), Some(known)));
     }
     let empty_red = Plan::new(random, RED).bytes()[..12].to_vec();
     cases.push(Case::refused(random, empty_red, 17));
@@ -118,14 +127,15 @@ fn settings(random: &mut Random) -> Vec<Case> {
     };
     let dynamic = 96..=127;
     if !dynamic.contains(&case.t140) || !dynamic.contains(&case.red) || case.t140 == case.red {
-        case.known = Known::Refusal(3);
+        case.known = Some(Err(3));
     }
     vec![case]
 }
 
 /// Every payload type in a packet, and RED and T140 exchanged.
 fn payload_types(random: &mut Random) -> Vec<Case> {
-    let plan = Plan::small_red(random, 2);
+    let count = random.within(0, LEVEL);
+    let plan = Plan::small_red(random, count);
     let mut cases = vec![];
     for payload_type in 0..128 {
         let mut packet = plan.bytes();
@@ -153,10 +163,10 @@ fn expected_source(random: &mut Random) -> Vec<Case> {
     same.source = plan.source;
     let mut other = same.clone();
     other.source ^= 1 << random.below(32);
-    other.known = Known::Refusal(16);
+    other.known = Some(Err(16));
     let mut mutated = same.clone();
     mutated.packet = damage::mutate(random, mutated.packet);
-    mutated.known = Known::Nothing;
+    mutated.known = None;
     let mut mutated_other = mutated.clone();
     mutated_other.source = other.source;
     vec![same, other, mutated, mutated_other]
@@ -177,7 +187,7 @@ fn random_payload(random: &mut Random) -> Vec<Case> {
     let mut packet = Plan::new(random, payload_type).bytes();
     packet.truncate(12);
     packet[0] |= random.pick(&[0, 0, 0x20, 0x10, 1, 0x31]);
-    let count = random.below(6);
+    let count = random.within(0, LEVEL + 1);
     let ages = match count > 0 && random.once_in(8) {
         true => offsets::wrong(random, count),
         false => offsets::falling(random, count),

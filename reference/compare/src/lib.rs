@@ -10,6 +10,7 @@ pub mod check;
 pub mod damage;
 pub mod kinds;
 mod letters;
+pub mod level;
 pub mod output;
 mod patterns;
 pub mod plan;

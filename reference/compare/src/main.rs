@@ -8,7 +8,8 @@ use std::time::{Instant, SystemTime, UNIX_EPOCH};
 
 use compare::calls::{self, tally::Call};
 use compare::run::{run, Counts};
-use compare::say;
+use compare::{level, say};
+use independent::LEVEL;
 
 const USAGE: &str = "\
 Usage: compare [--seed N | --random-seed] [--packets N] [--calls N]
@@ -72,6 +73,9 @@ fn print(counts: &Counts) {
     for (name, count) in &counts.named {
         say!("{count:>9}  {name}");
     }
+    for name in &counts.left_out {
+        say!(" left out  {name}");
+    }
     say!("\n  packets  kind: answers (0 is accepted, others are refusals)");
     for (name, numbers) in &counts.kinds {
         let total: usize = numbers.values().sum();
@@ -81,6 +85,10 @@ fn print(counts: &Counts) {
     say!("\n  packets  answer, over all kinds");
     for (number, count) in counts.numbers() {
         say!("{count:>9}  {number}");
+    }
+    say!("\n  packets  older blocks of those accepted");
+    for (older, count) in &counts.older {
+        say!("{count:>9}  {older}");
     }
     say!("\n    texts  kind: how many are UTF-8");
     for count in &counts.texts {
@@ -107,7 +115,8 @@ fn main() {
         eprintln!("compare: {wrong}\n\n{USAGE}");
         exit(2);
     });
-    say!("seed {}", options.seed);
+    say!("seed {}, highest level {LEVEL}", options.seed);
+    level::check().unwrap_or_else(|why| fail(&why));
     let start = Instant::now();
     let counts = run(options.seed, options.packets)
         .unwrap_or_else(|difference| differ(&options, difference));

@@ -2,7 +2,7 @@
 //! without reading them.
 
 use crate::random::Random;
-use independent::offsets;
+use independent::{offsets, LEVEL};
 use stewpigeon::lent::{Block, Packet};
 
 pub const T140: u8 = 98;
@@ -53,7 +53,7 @@ impl Plan {
         plan
     }
 
-    /// A good RED packet with `count` older blocks, at most 4.
+    /// A good RED packet with `count` older blocks, at most [`LEVEL`].
     pub fn red(random: &mut Random, count: usize) -> Plan {
         let mut plan = Plan::new(random, RED);
         plan.dress(random);
@@ -71,9 +71,9 @@ impl Plan {
 
     /// A good packet of either type.
     pub fn good(random: &mut Random) -> Plan {
-        match random.below(6) {
-            5 => Plan::t140(random),
-            count => Plan::red(random, count),
+        match random.within(0, LEVEL + 1) {
+            count @ 0..=LEVEL => Plan::red(random, count),
+            _ => Plan::t140(random),
         }
     }
 
@@ -194,7 +194,7 @@ impl Plan {
     /// The answer due to these parts, where they make a good packet.
     pub fn answer(&self) -> Packet {
         let mut place = self.blocks();
-        let mut older = [Block::ZERO; 4];
+        let mut older = Packet::ZERO.older;
         for (block, (offset, text)) in older.iter_mut().zip(&self.older) {
             *block = Block {
                 offset: *offset,

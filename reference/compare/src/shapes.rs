@@ -1,15 +1,16 @@
 //! Kinds of packets made wrong, or nearly so, in one part.
 
-use crate::check::{Case, Known};
+use crate::check::Case;
 use crate::damage::BAD;
 use crate::plan::{Plan, RED, T140};
 use crate::random::Random;
+use independent::LEVEL;
 
 /// Every padding count from 0 to past the payload, and no payload at all.
 pub fn padding(random: &mut Random) -> Vec<Case> {
-    let mut plan = match random.below(6) {
-        5 => Plan::new(random, T140),
-        count => Plan::small_red(random, count),
+    let mut plan = match random.within(0, LEVEL + 1) {
+        count @ 0..=LEVEL => Plan::small_red(random, count),
+        _ => Plan::new(random, T140),
     };
     if random.once_in(3) {
         plan.add_sources(random);
@@ -36,10 +37,10 @@ pub fn padding(random: &mut Random) -> Vec<Case> {
     for count in 0..=255 {
         *packet.last_mut().unwrap() = count;
         let known = match usize::from(count) {
-            0 => Known::Refusal(14),
-            count if count > length => Known::Refusal(14),
-            count if count == length && plan.payload_type == RED => Known::Refusal(17),
-            _ => Known::Nothing,
+            0 => Some(Err(14)),
+            count if count > length => Some(Err(14)),
+            count if count == length && plan.payload_type == RED => Some(Err(17)),
+            _ => None,
         };
         cases.push(Case::new(random, packet.clone(), known));
     }
@@ -48,7 +49,7 @@ pub fn padding(random: &mut Random) -> Vec<Case> {
 
 /// Each of X and CC, with the packet cut about the ends of both.
 pub fn lists_and_extensions(random: &mut Random) -> Vec<Case> {
-    let count = random.below(5);
+    let count = random.within(0, LEVEL);
     let mut plan = Plan::small_red(random, count);
     plan.add_sources(random);
     if !random.once_in(4) {
@@ -91,33 +92,50 @@ pub fn lists_and_extensions(random: &mut Random) -> Vec<Case> {
     cases
 }
 
-/// Four good headers, then a fifth with every number of bytes left.
-pub fn fifth_header(random: &mut Random) -> Vec<Case> {
-    let plan = Plan::small_red(random, 4);
+/// As many older headers as may be, and what can be found behind them: the
+/// primary's, none (17), one too many (18) or one of another type (19), with
+/// every number of bytes left.
+pub fn last_header(random: &mut Random) -> Vec<Case> {
+    let plan = Plan::small_red(random, LEVEL);
     let packet = plan.bytes();
-    let place = plan.payload() + 16;
-    let mut cases = vec![Case::refused(random, packet[..place].to_vec(), 17)];
+    let place = plan.payload() + 4 * LEVEL;
+    let older = &packet[..place];
+    let mut cases = vec![
+        Case::accepted(random, &plan),
+        Case::refused(random, older.to_vec(), 17),
+    ];
     for left in 0..12 {
-        for first in [0xe2, 0x80, 0xff, 0xe4] {
-            let mut fifth = packet[..place].to_vec();
-            fifth.push(first);
-            fifth.extend(random.bytes(left));
-            cases.push(Case::refused(random, fifth, 18));
+        for (first, refusal) in [
+            (0xe2, 18),
+            (0xe1, 18),
+            (0x80, 18),
+            (0xff, 18),
+            (0x61, 19),
+            (0x7f, 19),
+        ] {
+            let rest = random.bytes(left);
+            let packet = [older, &[first], &rest].concat();
+            cases.push(Case::refused(random, packet, refusal));
         }
     }
+    for more in 1..4 {
+        let packet = Plan::small_red(random, LEVEL + more).bytes();
+        cases.push(Case::refused(random, packet, 18));
+    }
     // A wrong type or a short rest in an earlier header comes first.
-    for header in 0..4 {
-        let mut wrong = packet[..place].to_vec();
-        wrong.push(0xe2);
-        wrong[plan.payload() + 4 * header] ^= 1 << random.below(7);
+    for header in (0..LEVEL).map(|header| plan.payload() + 4 * header) {
+        let mut wrong = [older, &[0xe2]].concat();
+        wrong[header] ^= 1 << random.below(7);
         cases.push(Case::refused(random, wrong, 19));
+        let cut = header + random.below(4);
+        cases.push(Case::refused(random, older[..cut].to_vec(), 17));
     }
     cases
 }
 
 /// Each bit of each block's type turned, with and without enough bytes left.
 pub fn wrong_block_types(random: &mut Random) -> Vec<Case> {
-    let count = random.below(5);
+    let count = random.within(0, LEVEL);
     let plan = Plan::small_red(random, count);
     let packet = plan.bytes();
     let mut cases = vec![];
@@ -138,7 +156,7 @@ pub fn wrong_block_types(random: &mut Random) -> Vec<Case> {
 
 /// Lengths that meet the end, pass it by one and by more.
 pub fn lengths_passing_the_end(random: &mut Random) -> Vec<Case> {
-    let count = random.within(1, 4);
+    let count = random.within(1, LEVEL);
     let mut plan = Plan::red(random, count);
     plan.primary.clear();
     let mut cases = vec![Case::accepted(random, &plan)];
@@ -167,7 +185,7 @@ pub fn lengths_passing_the_end(random: &mut Random) -> Vec<Case> {
 /// Ages that do not fall to 1 or more: near the bounds, and together with
 /// every other fault that a block can have.
 pub fn impossible_ages(random: &mut Random) -> Vec<Case> {
-    let count = random.within(1, 4);
+    let count = random.within(1, LEVEL);
     let mut plan = Plan::red(random, count);
     let mut cases = vec![];
     for _ in 0..8 {
@@ -194,10 +212,10 @@ pub fn impossible_ages(random: &mut Random) -> Vec<Case> {
     let mut wrong = packet.clone();
     wrong[headers] ^= 1;
     cases.push(Case::refused(random, wrong, 19));
-    if count == 4 {
-        let mut fifth = packet.clone();
-        fifth[headers] = 0xe2;
-        cases.push(Case::refused(random, fifth, 18));
+    if count == LEVEL {
+        let mut too_many = packet.clone();
+        too_many[headers] = 0xe2;
+        cases.push(Case::refused(random, too_many, 18));
     }
     for length in plan.blocks()..packet.len() - plan.primary.len() {
         cases.push(Case::refused(random, packet[..length].to_vec(), 20));
@@ -212,7 +230,7 @@ pub fn impossible_ages(random: &mut Random) -> Vec<Case> {
 
 /// Bytes that are not UTF-8 put over every place of every block.
 pub fn bad_utf8(random: &mut Random) -> Vec<Case> {
-    let count = random.below(5);
+    let count = random.within(0, LEVEL);
     let mut plan = Plan::small_red(random, count);
     if random.once_in(4) {
         plan = Plan::t140(random);
@@ -249,7 +267,7 @@ pub fn bad_utf8(random: &mut Random) -> Vec<Case> {
 
 /// Letters cut over the end of a block, so that only the joined text is good.
 pub fn split_letters(random: &mut Random) -> Vec<Case> {
-    let count = random.within(1, 4);
+    let count = random.within(1, LEVEL);
     let mut plan = Plan::small_red(random, count);
     if random.once_in(4) {
         let count = random.within(1, 9);

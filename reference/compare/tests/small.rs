@@ -1,8 +1,10 @@
+use compare::calls::each::Each;
 use compare::calls::tally::{Answer, Call, Tally};
 use compare::check::check_text;
 use compare::random::Random;
 use compare::run::run;
 use compare::{calls, captures};
+use independent::LEVEL;
 
 #[test]
 fn no_difference_in_a_small_run() {
@@ -39,6 +41,8 @@ fn what_was_never_met_is_named() {
     assert!(missing
         .iter()
         .any(|what| what.starts_with("no text of kind")));
+    let header = "no packet of kind: behind the last block header: 18";
+    assert!(missing.contains(&header.to_string()));
     counts.kinds[0].1.clear();
     let what = format!("no packet of kind: {}", counts.kinds[0].0);
     assert!(counts.missing().contains(&what));
@@ -64,6 +68,31 @@ fn answers_never_given_are_named() {
     assert!(missing.contains(&"holding wait was never answered 27".to_string()));
     assert!(!missing.contains(&"sender clock was never answered sent".to_string()));
     assert!(missing.contains(&"never met: a blue moon".to_string()));
+}
+
+#[test]
+fn levels_never_met_are_named() {
+    let mut counts = run(1, 1).unwrap_or_else(|difference| panic!("{difference}"));
+    counts.older.clear();
+    let mut tally = Tally::default();
+    for level in 0..LEVEL {
+        tally.each(Each::Opened, level);
+        counts.older.insert(level, 1);
+    }
+    tally.each(Each::Opened, LEVEL + 1);
+    let missing = [counts.missing(), tally.missing()].concat();
+    let named = |what: String| missing.contains(&what);
+    assert!(named(format!(
+        "no generated packet was read with {LEVEL} older blocks"
+    )));
+    assert!(!named(
+        "no generated packet was read with 0 older blocks".to_string()
+    ));
+    assert!(named(format!("never met: senders opened at level {LEVEL}")));
+    assert!(!named("never met: senders opened at level 0".to_string()));
+    let lost = "packets of lines taken, behind lost ones";
+    assert!(named(format!("never met: {lost} {}", LEVEL + 2)));
+    assert!(!named(format!("never met: {lost} {}", LEVEL + 3)));
 }
 
 #[test]

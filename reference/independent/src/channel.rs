@@ -3,7 +3,8 @@
 
 use crate::random::Random;
 use crate::record::{Sent, AHEAD, BEHIND};
-use crate::sender::{Clocked, Sender, Settings};
+use crate::sender::{Clocked, Sender, Settings, LONGEST_PACKET};
+use crate::LEVEL;
 
 /// A call on a sender.
 #[derive(Clone, Debug)]
@@ -107,8 +108,8 @@ fn offer(random: &mut Random, clock: u64) -> Call {
 fn clock_call(random: &mut Random, clock: u64) -> Call {
     let space = match random.below(10) {
         0 => random.below(40),
-        1 => random.below(900),
-        _ => 900,
+        1 => random.below(LONGEST_PACKET),
+        _ => LONGEST_PACKET,
     };
     Call::Clock { clock, space }
 }
@@ -125,7 +126,8 @@ pub fn lettered(random: &mut Random, level: usize, packets: u64) -> (Settings, V
     for clock in (0..packets).map(|k| 11 * k) {
         let text = vec![b'a' + (clock % 26) as u8];
         calls.push(Call::Offer { clock, text });
-        calls.push(Call::Clock { clock, space: 900 });
+        let space = LONGEST_PACKET;
+        calls.push(Call::Clock { clock, space });
     }
     (settings, calls)
 }
@@ -170,7 +172,7 @@ pub fn deliveries(random: &mut Random, packets: &[Vec<u8>]) -> Vec<Delivery> {
     let mut arrivals = vec![];
     for number in 0..packets.len() {
         if random.once_in(50) {
-            lost = random.within(1, 10);
+            lost = random.within(1, LEVEL + 3);
         }
         if lost > 0 || random.once_in(loss) {
             lost = lost.saturating_sub(1);
@@ -234,7 +236,7 @@ pub fn strides(random: &mut Random, packets: &[Vec<u8>]) -> Vec<Delivery> {
             }
         }
         let on = random.within(1, AHEAD);
-        newest += random.pick(&[1, 2, 5, 6, on, AHEAD - 1, AHEAD]);
+        newest += random.pick(&[1, 2, LEVEL + 1, LEVEL + 2, on, AHEAD - 1, AHEAD]);
     }
     deliveries
 }

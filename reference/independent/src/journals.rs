@@ -3,9 +3,11 @@
 
 use crate::receiver::MARK;
 use crate::recorder::Recorder;
+use crate::LEVEL;
 
 mod broken;
 mod jumps;
+mod repeats;
 mod whole;
 
 /// A journal and its transcript.
@@ -13,6 +15,14 @@ pub struct Case {
     pub name: &'static str,
     pub journal: Vec<u8>,
     pub printed: Vec<u8>,
+    /// The least [`LEVEL`] at which this is printed.
+    pub level: usize,
+}
+
+impl Case {
+    fn needs(self, level: usize) -> Case {
+        Case { level, ..self }
+    }
 }
 
 /// The paper's whole case.
@@ -22,8 +32,8 @@ pub const WHOLE: [u8; 41] = [
     0, 0, 0x00,
 ];
 
-/// Every case, the paper's own first.
-pub fn cases() -> Vec<Case> {
+/// Every case, the paper's own first, also those that need a higher level.
+pub fn all() -> Vec<Case> {
     let mut cases = vec![case(
         "whole-case",
         WHOLE.to_vec(),
@@ -31,8 +41,16 @@ pub fn cases() -> Vec<Case> {
         "1 late 0 lost 0 refused 0",
     )];
     cases.extend(whole::cases());
+    cases.extend(repeats::cases());
     cases.extend(jumps::cases());
     cases.extend(broken::cases());
+    cases
+}
+
+/// The cases of this level.
+pub fn cases() -> Vec<Case> {
+    let mut cases = all();
+    cases.retain(|case| case.level <= LEVEL);
     cases
 }
 
@@ -44,6 +62,7 @@ fn case(name: &'static str, journal: Vec<u8>, text: impl AsRef<[u8]>, counts: &s
         name,
         journal,
         printed,
+        level: 1,
     }
 }
 
@@ -53,11 +72,20 @@ fn broken(name: &'static str, journal: Vec<u8>, text: &str) -> Case {
         name,
         journal,
         printed: [text, "\njournal broken\n"].concat().into_bytes(),
+        level: 1,
     }
 }
 
+const ONE: &str = "1 late 0 lost 0 refused 0";
+const TWO: &str = "2 late 0 lost 0 refused 0";
+
 fn open() -> Recorder {
     Recorder::open(98, 100)
+}
+
+/// A journal of two packets.
+fn two(first: Vec<u8>, second: Vec<u8>) -> Vec<u8> {
+    open().packet(&first).packet(&second).end()
 }
 
 /// A T140 packet.

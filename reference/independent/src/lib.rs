@@ -4,6 +4,8 @@
 //! buyer's papers and the RFCs alone.
 #![forbid(unsafe_code)]
 
+use std::io::{stderr, Write};
+
 pub mod block;
 pub mod channel;
 pub mod holding;
@@ -11,6 +13,7 @@ pub mod journal;
 pub mod journals;
 pub mod maker;
 pub mod offsets;
+mod older;
 pub mod packets;
 pub mod paper;
 pub mod random;
@@ -23,22 +26,25 @@ pub mod stream;
 pub mod transcript;
 mod utf8;
 
+pub use older::{Older, OlderBlocks};
 pub use utf8::text;
 
-/// The most older blocks a packet may carry.
-pub const MOST_OLDER: usize = 4;
+/// The highest number of repeats sent, and of older blocks read: from 1 to 7.
+pub const LEVEL: usize = 7;
+
+/// Whether a test is left out because its data need a higher level. It is said
+/// also where the tests pass.
+pub fn left_out(test: &str, level: usize) -> bool {
+    let low = LEVEL < level;
+    if low {
+        let line = format!("{test}: left out, it needs level {level}\n");
+        let _ = stderr().write_all(line.as_bytes());
+    }
+    low
+}
 
 const HEADER: usize = 12;
 const LONGEST: usize = 1472;
-
-/// An older block of a RED packet, as a place in the packet.
-#[derive(Clone, Copy, Debug, Default, PartialEq, Eq)]
-pub struct Older {
-    /// The timestamp offset: 1 or more, and above that of the block behind it.
-    pub offset: u16,
-    pub start: u16,
-    pub length: u16,
-}
 
 /// An accepted packet.
 #[derive(Clone, Copy, Debug, PartialEq, Eq)]
@@ -48,7 +54,9 @@ pub struct Packet<'a> {
     pub sequence: u16,
     pub timestamp: u32,
     pub source: u32,
-    older: [Older; MOST_OLDER],
+    /// Where the headers of its older blocks start.
+    headers: u16,
+    /// How many these are.
     count: u8,
     /// Where the primary starts.
     pub start: u16,
@@ -57,14 +65,14 @@ pub struct Packet<'a> {
 }
 
 /// What an accepted packet holds, its blocks as places in it.
-#[derive(Clone, Copy, Debug, PartialEq, Eq)]
-pub struct Contents<'a> {
+#[derive(Clone, Debug, PartialEq, Eq)]
+pub struct Contents {
     pub marker: bool,
     pub sequence: u16,
     pub timestamp: u32,
     pub source: u32,
     /// The older blocks, oldest first.
-    pub older: &'a [Older],
+    pub older: Vec<Older>,
     /// Where the primary starts.
     pub start: u16,
     /// Where the primary ends.
@@ -74,8 +82,11 @@ pub struct Contents<'a> {
 impl<'a> Packet<'a> {
     /// The older blocks, oldest first.
     #[inline]
-    pub fn older(&self) -> &[Older] {
-        &self.older[..usize::from(self.count)]
+    pub fn older(&self) -> OlderBlocks<'a> {
+        let start = usize::from(self.headers);
+        let headers = &self.bytes[start..start + 4 * usize::from(self.count)];
+        // The primary's header lies between.
+        OlderBlocks::new(headers, self.headers + headers.len() as u16 + 1)
     }
 
     /// The bytes of one of this packet's older blocks.
@@ -90,14 +101,13 @@ impl<'a> Packet<'a> {
         &self.bytes[usize::from(self.start)..usize::from(self.end)]
     }
 
-    #[inline]
-    pub fn contents(&self) -> Contents<'_> {
+    pub fn contents(&self) -> Contents {
         Contents {
             marker: self.marker,
             sequence: self.sequence,
             timestamp: self.timestamp,
             source: self.source,
-            older: self.older(),
+            older: self.older().collect(),
             start: self.start,
             end: self.end,
         }
@@ -133,18 +143,17 @@ pub fn read(expected: Option<u32>, t140: u8, red: u8, packet: &[u8]) -> Result<P
         sequence: u16::from_be_bytes([header[2], header[3]]),
         timestamp: u32::from_be_bytes([header[4], header[5], header[6], header[7]]),
         source,
-        older: [Older::default(); MOST_OLDER],
+        headers: start as u16,
         count: 0,
         start: start as u16,
         end: end as u16,
     };
     if payload_type == red {
         read.block_headers(t140)?;
-        read.place_older()?;
-        read.ages()?;
+        read.pass_older()?;
     }
     for older in read.older() {
-        well_formed(read.block(older))?;
+        well_formed(read.block(&older))?;
     }
     well_formed(read.primary())?;
     Ok(read)
@@ -218,49 +227,36 @@ impl Packet<'_> {
                 self.start += 1;
                 return Ok(());
             }
-            let place = usize::from(self.count);
-            if place == MOST_OLDER {
-                return Err(refusal::FIFTH_OLDER);
+            if usize::from(self.count) == LEVEL {
+                return Err(refusal::OLDER_TOO_MANY);
             }
-            let Some(&header) = left.first_chunk::<4>() else {
+            if left.len() < 4 {
                 return Err(refusal::BLOCK_HEADERS_END);
-            };
+            }
             if first & 0x7f != t140 {
                 return Err(refusal::BLOCK_TYPE);
             }
-            let header = u32::from_be_bytes(header);
-            self.older[place] = Older {
-                offset: (header >> 10 & 0x3fff) as u16,
-                start: 0,
-                length: (header & 0x3ff) as u16,
-            };
             self.count += 1;
             self.start += 4;
         }
     }
 
-    /// Gives each older block its place and moves `start` past them all.
+    /// Moves `start` past the older blocks. Each must be older than the next,
+    /// and the last than the primary.
     #[inline]
-    fn place_older(&mut self) -> Result<(), u8> {
-        for older in &mut self.older[..usize::from(self.count)] {
-            older.start = self.start;
+    fn pass_older(&mut self) -> Result<(), u8> {
+        let mut falls = true;
+        let mut least = u16::MAX;
+        for older in self.older() {
             self.start += older.length;
+            falls &= older.offset < least;
+            least = older.offset;
         }
         if self.start > self.end {
             return Err(refusal::BLOCKS_END);
         }
-        Ok(())
-    }
-
-    /// Each block is older than the next, and the last than the primary.
-    #[inline]
-    fn ages(&self) -> Result<(), u8> {
-        let mut newer = 0;
-        for older in self.older().iter().rev() {
-            if older.offset <= newer {
-                return Err(refusal::BLOCK_AGES);
-            }
-            newer = older.offset;
+        if !falls || least == 0 {
+            return Err(refusal::BLOCK_AGES);
         }
         Ok(())
     }

@@ -1,5 +1,11 @@
 //! Packets for tests, of source 11223344 hex, RED 100 over T140 98.
 
+/// Texts for so many older blocks, as many as some level allows.
+pub fn older(count: usize) -> &'static [&'static [u8]] {
+    const ALL: [&[u8]; 7] = [b"1", b"", "€".as_bytes(), b"4", b"five", b"6", b"7"];
+    &ALL[..count]
+}
+
 /// A RED packet; its offsets count down to 1.
 pub fn red(sequence: u16, older: &[&[u8]], primary: &[u8]) -> Vec<u8> {
     let mut packet = vec![0x80, 0x64];

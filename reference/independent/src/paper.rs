@@ -1,13 +1,13 @@
 //! The scope paper's cases for a reader, with the results it names, and one
 //! case for each pair of checks whose order it fixes. T140 is 98, RED 100.
 
-use crate::{Contents, Older};
+use crate::{Contents, Older, LEVEL};
 
 mod ages;
 mod blocks;
 
 /// What an accepted packet holds, or the refusal.
-type Outcome = Result<Contents<'static>, u8>;
+type Outcome = Result<Contents, u8>;
 
 /// A packet, the settings it is read with and what must come of it.
 pub struct Case {
@@ -17,6 +17,14 @@ pub struct Case {
     pub red: u8,
     pub packet: Vec<u8>,
     pub result: Outcome,
+    /// The least [`LEVEL`] at which this comes of it.
+    pub level: usize,
+}
+
+impl Case {
+    fn needs(self, level: usize) -> Case {
+        Case { level, ..self }
+    }
 }
 
 fn case(name: &'static str, packet: Vec<u8>, result: Outcome) -> Case {
@@ -27,16 +35,17 @@ fn case(name: &'static str, packet: Vec<u8>, result: Outcome) -> Case {
         red: 100,
         packet,
         result,
+        level: 1,
     }
 }
 
 /// Numbers of 0 and a primary from `start` to `end`.
-fn primary(start: u16, end: u16) -> Contents<'static> {
-    behind(&[], start, end)
+fn primary(start: u16, end: u16) -> Contents {
+    behind(vec![], start, end)
 }
 
 /// The same behind older blocks.
-const fn behind(older: &'static [Older], start: u16, end: u16) -> Contents<'static> {
+fn behind(older: Vec<Older>, start: u16, end: u16) -> Contents {
     Contents {
         marker: false,
         sequence: 0,
@@ -48,7 +57,7 @@ const fn behind(older: &'static [Older], start: u16, end: u16) -> Contents<'stat
     }
 }
 
-const fn older(offset: u16, start: u16, length: u16) -> Older {
+fn older(offset: u16, start: u16, length: u16) -> Older {
     Older {
         offset,
         start,
@@ -83,12 +92,14 @@ const T3: [u8; 18] = [
     0x62, 0x41,
 ];
 
-const T3_HOLDS: Contents<'static> = Contents {
-    sequence: 5,
-    timestamp: 1000,
-    source: 0x11223344,
-    ..behind(&[older(300, 17, 1)], 18, 18)
-};
+fn t3_holds() -> Contents {
+    Contents {
+        sequence: 5,
+        timestamp: 1000,
+        source: 0x11223344,
+        ..behind(vec![older(300, 17, 1)], 18, 18)
+    }
+}
 
 /// T1, T2, T3, T9, T10 and the cases that are run only.
 fn line_tests() -> Vec<Case> {
@@ -101,7 +112,7 @@ fn line_tests() -> Vec<Case> {
     vec![
         case("T1", vec![], Err(10)),
         case("T2", t140(&[]), Ok(primary(12, 12))),
-        case("T3", T3.to_vec(), Ok(T3_HOLDS)),
+        case("T3", T3.to_vec(), Ok(t3_holds())),
         case("T9 in T140", t140(&surrogate), Err(21)),
         case("T9 in a primary", one_older(b"", &surrogate), Err(21)),
         case("T9 in an older block", one_older(&surrogate, b""), Err(21)),
@@ -109,12 +120,12 @@ fn line_tests() -> Vec<Case> {
         case(
             "T10 in a primary",
             one_older(b"", &last),
-            Ok(behind(const { &[older(300, 17, 0)] }, 17, 21)),
+            Ok(behind(vec![older(300, 17, 0)], 17, 21)),
         ),
         case(
             "T10 in an older block",
             one_older(&last, b""),
-            Ok(behind(const { &[older(300, 17, 4)] }, 21, 21)),
+            Ok(behind(vec![older(300, 17, 4)], 21, 21)),
         ),
         case(
             "1,472 bytes of T140",
@@ -229,11 +240,24 @@ fn headers() -> Vec<Case> {
     ]
 }
 
-/// All cases.
-pub fn cases() -> Vec<Case> {
+fn all() -> Vec<Case> {
     let mut cases = line_tests();
     cases.extend(headers());
     cases.extend(blocks::cases());
     cases.extend(ages::cases());
+    cases
+}
+
+/// The cases of this level.
+pub fn cases() -> Vec<Case> {
+    let mut cases = all();
+    cases.retain(|case| case.level <= LEVEL);
+    cases
+}
+
+/// Those that need a higher one.
+pub fn left_out() -> Vec<Case> {
+    let mut cases = all();
+    cases.retain(|case| case.level > LEVEL);
     cases
 }

@@ -140,14 +140,14 @@ impl<'a> Added<'a> {
 
     /// The older blocks that are given.
     #[inline]
-    fn given(&self) -> &[Older] {
-        &self.packet.older()[self.older() - self.wanted..]
+    fn given(&self) -> impl Iterator<Item = Older> + 'a {
+        self.packet.older().skip(self.older() - self.wanted)
     }
 
     /// The blocks given, oldest first.
     pub fn blocks(&self) -> Vec<&'a [u8]> {
-        let given = self.given().iter();
-        let mut blocks: Vec<_> = given.map(|older| self.packet.block(older)).collect();
+        let given = self.given().map(|older| self.packet.block(&older));
+        let mut blocks: Vec<_> = given.collect();
         blocks.push(self.packet.primary());
         blocks
     }
@@ -156,8 +156,11 @@ impl<'a> Added<'a> {
     /// packet.
     #[inline]
     pub fn place(&self) -> (usize, usize) {
-        let oldest = self.given().first();
-        let start = oldest.map_or(self.packet.start, |oldest| oldest.start);
+        let primary = self.packet.start;
+        let start = match self.wanted {
+            0 => primary,
+            _ => self.given().next().map_or(primary, |oldest| oldest.start),
+        };
         (start.into(), self.packet.end.into())
     }
 

@@ -1,6 +1,6 @@
 //! The refusal numbers.
 
-/// Repeat level above 4.
+/// Repeat level above the highest.
 pub const LEVEL: u8 = 1;
 /// Buffering time 0 or above 500.
 pub const BUFFERING: u8 = 2;
@@ -34,8 +34,8 @@ pub const PAYLOAD_TYPE: u8 = 15;
 pub const SOURCE: u8 = 16;
 /// Block headers pass the end.
 pub const BLOCK_HEADERS_END: u8 = 17;
-/// A fifth older block.
-pub const FIFTH_OLDER: u8 = 18;
+/// One older block too many.
+pub const OLDER_TOO_MANY: u8 = 18;
 /// A block's type is not T140.
 pub const BLOCK_TYPE: u8 = 19;
 /// Older blocks' lengths pass the end.

@@ -6,7 +6,8 @@ mod rate;
 mod settings;
 
 use crate::block::{Block, ROOM};
-use crate::{refusal, text, MOST_OLDER};
+use crate::{refusal, text, LEVEL};
+pub use packet::LONGEST_PACKET;
 use rate::Spent;
 pub use settings::Settings;
 
@@ -14,7 +15,7 @@ pub use settings::Settings;
 pub const OLDEST: u64 = 16_383;
 
 /// The waiting room and the last blocks sent.
-const KEPT: usize = 1 + MOST_OLDER;
+const KEPT: usize = 1 + LEVEL;
 
 #[derive(Clone, Debug)]
 pub struct Sender {
@@ -113,7 +114,7 @@ impl Sender {
         self.sequence
     }
 
-    /// The last blocks sent, at most four whatever the level, newest first.
+    /// The last blocks sent, at most [`LEVEL`] at every level, newest first.
     #[inline]
     pub fn blocks(&self) -> impl Iterator<Item = &Block> {
         (1..=self.count).map(|back| self.back(back))
@@ -210,9 +211,8 @@ impl Sender {
     #[inline]
     fn run(&self, clock: u64) -> usize {
         let recent = self.blocks().take(self.settings.level);
-        recent
-            .take_while(|block| clock - block.clock <= OLDEST)
-            .count()
+        let fresh = |block: &&Block| clock - block.clock <= OLDEST;
+        recent.take_while(fresh).count()
     }
 
     /// The last `run` blocks, oldest first.
@@ -278,7 +278,7 @@ impl Sender {
         self.spent.spend(clock, draft.characters);
         self.sequence = self.sequence.wrapping_add(1);
         self.room = next;
-        self.count = MOST_OLDER.min(self.count + 1);
+        self.count = LEVEL.min(self.count + 1);
     }
 }
 

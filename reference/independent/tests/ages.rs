@@ -2,7 +2,7 @@
 
 use independent::random::Random;
 use independent::receiver::{Answer, Receiver};
-use independent::{offsets, read, refusal};
+use independent::{offsets, read, refusal, LEVEL};
 
 /// A RED packet with older blocks of these offsets, each an `a`, and the
 /// primary `b`.
@@ -24,14 +24,14 @@ fn answer(offsets: &[u16]) -> Option<u8> {
     read(None, 98, 100, &packet(0, offsets)).err()
 }
 
-/// Every list of up to 4 of these, in every order and with each of them
-/// several times.
+/// Every list of as many of these as may be, in every order and with each of
+/// them several times.
 #[test]
 fn every_list() {
     let some = [0, 1, 2, 3, 4, 300, 16_382, 16_383];
     let mut lists = vec![vec![]];
     assert_eq!(answer(&[]), None);
-    for _ in 0..4 {
+    for _ in 0..LEVEL {
         let mut longer = vec![];
         for list in &lists {
             longer.extend(some.map(|offset| [&list[..], &[offset]].concat()));
@@ -54,7 +54,7 @@ fn random_offsets_are_what_they_are_said_to_be() {
     let mut random = Random::new(22);
     assert_eq!(offsets::falling(&mut random, 0), [0; 0]);
     for round in 0..20_000 {
-        let count = 1 + round % 4;
+        let count = 1 + round % LEVEL;
         let falling = offsets::falling(&mut random, count);
         let wrong = offsets::wrong(&mut random, count);
         assert_eq!((falling.len(), wrong.len()), (count, count));
@@ -74,6 +74,9 @@ fn a_refused_packet_leaves_the_receiver() {
     heard.step(&packet(5, &[]));
     for before in [fresh, heard] {
         for offsets in [&[0][..], &[600, 0], &[300, 300], &[300, 600], &[2, 3, 1]] {
+            if offsets.len() > LEVEL {
+                continue;
+            }
             let mut receiver = before;
             for sequence in [5, 6, 9, 40_000] {
                 let packet = packet(sequence, offsets);
@@ -89,9 +92,9 @@ fn a_refused_packet_leaves_the_receiver() {
 fn repeats_of_a_refused_packet() {
     let mut receiver = Receiver::open(98, 100).unwrap();
     receiver.step(&packet(5, &[]));
-    let refused = packet(6, &[300, 300]);
+    let refused = packet(6, &[0]);
     assert_eq!(receiver.step(&refused), Answer::Refused(22));
-    let next = packet(7, &[600, 300]);
+    let next = packet(7, &[300]);
     let Answer::Forward(forward) = receiver.step(&next) else {
         panic!("it is the next");
     };

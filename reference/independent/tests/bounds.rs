@@ -1,7 +1,7 @@
 //! Clocks near 2^64, numbers past 65,535 and times past 2^32.
 
-use independent::read;
-use independent::sender::{Clocked, Sender, Settings};
+use independent::sender::{Clocked, Sender, Settings, LONGEST_PACKET};
+use independent::{read, LEVEL};
 
 fn settings(level: usize, buffering: u64) -> Settings {
     Settings {
@@ -17,7 +17,7 @@ fn settings(level: usize, buffering: u64) -> Settings {
 }
 
 fn clock(sender: &mut Sender, clock: u64) -> (Clocked, Vec<u8>) {
-    let mut space = vec![0; 900];
+    let mut space = vec![0; LONGEST_PACKET];
     let answer = sender.clock(clock, &mut space);
     if let Clocked::Sent(length) = answer {
         space.truncate(length);
@@ -29,7 +29,7 @@ fn clock(sender: &mut Sender, clock: u64) -> (Clocked, Vec<u8>) {
 #[test]
 fn near_the_end_of_the_clock() {
     let last = u64::MAX - 600;
-    for level in 0..=4 {
+    for level in 0..=LEVEL {
         let mut sender = Sender::open(settings(level, 500)).unwrap();
         sender.offer(last, b"A").unwrap();
         assert!(matches!(clock(&mut sender, last).0, Clocked::Sent(_)));
@@ -39,7 +39,7 @@ fn near_the_end_of_the_clock() {
         assert!(matches!(answer, Clocked::Sent(_)));
         let packet = read(None, 98, 100, &packet).unwrap();
         assert_eq!(packet.older().len(), level.min(1));
-        assert!(packet.older().iter().all(|older| older.offset == 500));
+        assert!(packet.older().all(|older| older.offset == 500));
         assert!(!packet.marker);
         assert_eq!(clock(&mut sender, u64::MAX).0, Clocked::Quiet);
         assert_eq!(sender.offer(u64::MAX - 1, b"C"), Err(5));
@@ -52,7 +52,7 @@ fn near_the_end_of_the_clock() {
 /// From clock 0 to the last one in a single step.
 #[test]
 fn across_the_whole_clock() {
-    let mut sender = Sender::open(settings(4, 1)).unwrap();
+    let mut sender = Sender::open(settings(LEVEL, 1)).unwrap();
     sender.offer(0, b"A").unwrap();
     assert!(matches!(clock(&mut sender, 0).0, Clocked::Sent(14)));
     assert_eq!(clock(&mut sender, u64::MAX).0, Clocked::Quiet);
@@ -68,7 +68,7 @@ fn across_the_whole_clock() {
 fn more_than_65_536_packets() {
     // So many ms apart, none is held back.
     const STEP: u64 = 11;
-    for level in 0..=4 {
+    for level in 0..=LEVEL {
         let settings = Settings {
             rate: 100,
             ..settings(level, STEP)
@@ -83,7 +83,8 @@ fn more_than_65_536_packets() {
             let timestamp = (u64::from(u32::MAX) - 100 + STEP * k) % (1 << 32);
             assert_eq!(u64::from(packet.timestamp), timestamp);
             assert_eq!(packet.older().len() as u64, k.min(level as u64));
-            for (older, back) in packet.older().iter().rev().zip(1..) {
+            let older: Vec<_> = packet.older().collect();
+            for (older, back) in older.iter().rev().zip(1..) {
                 let letter = [b'a' + ((k - back) % 26) as u8];
                 assert_eq!(packet.block(older), letter);
                 assert_eq!(u64::from(older.offset), STEP * back);
@@ -110,7 +111,7 @@ fn timestamps_wrap() {
 /// The run is broken by the first block too old, whatever the level.
 #[test]
 fn run_of_repeats() {
-    let mut sender = Sender::open(settings(4, 1)).unwrap();
+    let mut sender = Sender::open(settings(LEVEL, 1)).unwrap();
     for (t, text) in [(0, "a"), (1, "b"), (10_000, "c")] {
         sender.offer(t, text.as_bytes()).unwrap();
         clock(&mut sender, t);
@@ -123,7 +124,8 @@ fn run_of_repeats() {
     ] {
         let (_, packet) = clock(&mut sender.clone(), t);
         let packet = read(None, 98, 100, &packet).unwrap();
-        let older = packet.older().iter().map(|older| packet.block(older));
+        let older = packet.older().map(|older| packet.block(&older));
+        let carried = &carried[carried.len().saturating_sub(LEVEL)..];
         assert_eq!(older.collect::<Vec<_>>().concat(), carried.as_bytes());
     }
     assert_eq!(clock(&mut sender, 26_384).0, Clocked::Quiet);

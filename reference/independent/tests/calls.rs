@@ -6,9 +6,9 @@ use std::collections::BTreeMap;
 
 use independent::channel::{calls, settings, Call};
 use independent::random::Random;
-use independent::read;
 use independent::record::{run, Sent};
 use independent::sender::{Clocked, Sender, Settings};
+use independent::{read, LEVEL};
 
 /// An accepted offer.
 struct Offered {
@@ -167,9 +167,9 @@ impl Ledger {
         assert_eq!(packet.marker, self.marker(clock));
         let older = self.older(clock);
         assert_eq!(packet.older().len(), older.len());
-        for (read, sent) in packet.older().iter().zip(&older) {
+        for (read, sent) in packet.older().zip(&older) {
             assert_eq!(u64::from(read.offset), clock - sent.clock);
-            assert_eq!(packet.block(read), sent.block);
+            assert_eq!(packet.block(&read), sent.block);
         }
         assert_eq!(packet.primary(), self.front(clock));
     }
@@ -179,8 +179,8 @@ impl Ledger {
     fn check_state(&self, sender: &Sender) {
         let sequence = self.settings.sequence.wrapping_add(self.sent.len() as u16);
         let text = self.sent.iter().rfind(|sent| !sent.block.is_empty());
-        let last_four = self.sent.iter().rev().take(4);
-        let last_four = last_four.map(|sent| (sent.clock, &sent.block[..]));
+        let last = self.sent.iter().rev().take(LEVEL);
+        let last = last.map(|sent| (sent.clock, &sent.block[..]));
         assert_eq!(*sender.settings(), self.settings);
         assert_eq!(sender.latest(), self.latest);
         assert_eq!(sender.waiting().text(), self.waiting());
@@ -188,11 +188,9 @@ impl Ledger {
         assert_eq!(sender.waiting().clock, self.since().unwrap_or(0));
         assert_eq!(sender.sequence(), sequence);
         let blocks = sender.blocks().map(|block| (block.clock, block.text()));
-        assert!(blocks.eq(last_four));
-        assert_eq!(
-            sender.last_packet(),
-            self.sent.last().map(|last| last.clock)
-        );
+        assert!(blocks.eq(last));
+        let last = self.sent.last().map(|last| last.clock);
+        assert_eq!(sender.last_packet(), last);
         assert_eq!(sender.last_text(), text.map(|last| last.clock));
         let recent = self.sent.iter().filter(|sent| {
             !sent.block.is_empty() && self.sent.last().unwrap().clock - sent.clock <= 10_000
@@ -279,7 +277,7 @@ fn list(random: &mut Random, level: usize, met: &mut Met) {
 #[test]
 fn random_lists_of_calls() {
     let mut met = Met::new();
-    for level in 0..=4 {
+    for level in 0..=LEVEL {
         for seed in 0..2000 {
             let mut random = Random::new(seed << 8 | level as u64);
             list(&mut random, level, &mut met);

@@ -3,8 +3,9 @@
 
 use independent::holding::cases::{self, packet, step, wait, Call, Seen};
 use independent::holding::{Held, HoldingReceiver, Outcome, Step, Which};
-use independent::packets::red;
+use independent::packets::{older, red};
 use independent::receiver::Course;
+use independent::LEVEL;
 
 /// A receiver with its caller, who keeps the packet that is held.
 struct Caller {
@@ -151,9 +152,8 @@ fn a_gap_closed_by_a_repeat() {
 fn never_held() {
     for first in [0, 5, 65_535_u16] {
         let mut caller = Caller::new();
-        let older: [&[u8]; 2] = [b"1", b"2"];
         for (call, due) in [
-            (step(7, red(first, &older, b"p")), Seen::New(0, 0)),
+            (step(7, red(first, older(LEVEL), b"p")), Seen::New(0, 0)),
             (wait(7), Seen::Waits(0)),
             (step(7, packet(first.wrapping_add(1))), Seen::New(0, 0)),
         ] {

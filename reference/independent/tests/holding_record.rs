@@ -9,6 +9,7 @@ use independent::random::Random;
 use independent::receiver::{Course, Receiver};
 use independent::record::{add, expected, give, in_window, Entry, AHEAD, BEHIND};
 use independent::sender::Settings;
+use independent::LEVEL;
 use lines::{another_makers, lettered, long_line, ours};
 
 const LISTS: u64 = 1000;
@@ -169,7 +170,7 @@ fn receive(random: &mut Random, settings: &Settings, line: &Line, way: &[Deliver
 
 #[test]
 fn random_lines() {
-    for level in 0..=4 {
+    for level in 0..=LEVEL {
         for make in [ours, another_makers] {
             let mut met = Met::default();
             lines::random_lines(LISTS, level, make, |random, settings, line, deliveries| {
@@ -185,7 +186,7 @@ fn random_lines() {
 
 #[test]
 fn long_lines_to_the_ends_of_the_window() {
-    for level in 0..=4 {
+    for level in 0..=LEVEL {
         let mut met = Met::default();
         long_line(level, |random, settings, line, deliveries| {
             receive(random, settings, line, deliveries, &mut met);
@@ -199,7 +200,7 @@ fn long_lines_to_the_ends_of_the_window() {
 /// gained or lost by holding.
 #[test]
 fn rising_lists_as_without_holding() {
-    for level in 0..=4 {
+    for level in 0..=LEVEL {
         let mut random = Random::new(level as u64);
         let (settings, line) = lettered(&mut random, level, 20_000);
         for _ in 0..50 {
@@ -216,7 +217,7 @@ fn rising_lists_as_without_holding() {
                     recording.wait(clock, &mut met);
                 }
                 let far = random.within(1, AHEAD / 3);
-                k += random.pick(&[1, 1, 2, 3, 5, 6, far]);
+                k += random.pick(&[1, 1, 2, 3, LEVEL + 1, LEVEL + 2, far]);
             }
             recording.wait(clock + HOLD_TIME, &mut met);
             assert!(met.held > 10 && met.sent_out > 10, "{met:?}");

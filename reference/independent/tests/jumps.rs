@@ -3,8 +3,10 @@
 
 mod receiving;
 
+use independent::packets::older;
 use independent::receiver::{Answer, Receiver};
 use independent::record::{add, Entry};
+use independent::LEVEL;
 use receiving::{expecting, forward, open, red};
 use Short::{Break, Forward, Jump, Late, Refused};
 
@@ -95,11 +97,11 @@ fn rows() {
         assert_eq!(step(&mut receiver, &packet(number)), due);
         assert_eq!(receiver.kept(), kept);
     }
-    let older: [&[u8]; 4] = [b"1", b"2", b"3", b"4"];
+    let repeats = |number| red(number, older(LEVEL), b"x");
     let mut receiver = expecting(6);
-    let repeats = red(3_004, &older, b"x");
-    assert_eq!(step(&mut receiver, &repeats), Forward(2_994));
-    assert_eq!(step(&mut receiver, &red(6_004, &older, b"x")), Jump(2_999));
+    let forward = Forward(2_998 - LEVEL as u16);
+    assert_eq!(step(&mut receiver, &repeats(3_004)), forward);
+    assert_eq!(step(&mut receiver, &repeats(6_004)), Jump(2_999));
 }
 
 #[test]
@@ -184,15 +186,14 @@ fn the_kept_number_forward_or_late() {
 /// the distance.
 #[test]
 fn a_break_gives_all_blocks() {
-    let older: [&[u8]; 4] = [b"1", b"", "€".as_bytes(), b"4"];
-    for r in 0..=4 {
+    for r in 0..=LEVEL {
         let mut receiver = expecting(6);
         receiver.step(&packet(10_000));
-        let packet = red(10_001, &older[..r], b"p");
+        let packet = red(10_001, older(r), b"p");
         let Answer::Break(added) = receiver.step(&packet) else {
             panic!("{r} older blocks");
         };
-        let blocks = [&older[..r], &[b"p"]].concat();
+        let blocks = [older(r), &[b"p"]].concat();
         assert_eq!((added.loss, added.distance), (0, 0));
         assert_eq!((added.older(), added.wanted), (r, r));
         assert_eq!(added.blocks(), blocks);
@@ -228,12 +229,12 @@ fn record_over_a_break() {
     let mut entries = vec![];
     for packet in [
         packet(10_000),
-        red(10_001, &[b"w", b""], b"y"),
+        red(10_001, &[b"w"], b"y"),
         red(10_003, &[], b"z"),
     ] {
         add(&mut entries, &receiver.step(&packet));
     }
     let block = |text: &str| Entry::Block(text.into());
-    let due = [block("w"), block(""), block("y"), Entry::Mark, block("z")];
+    let due = [block("w"), block("y"), Entry::Mark, block("z")];
     assert_eq!(entries, due);
 }

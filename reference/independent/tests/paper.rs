@@ -1,12 +1,23 @@
 use independent::receiver::{Answer, Receiver};
-use independent::{paper, read, refusal};
+use independent::{left_out, paper, read, refusal};
 
 #[test]
 fn every_case_of_the_paper() {
     for case in paper::cases() {
         let read = read(case.expected, case.t140, case.red, &case.packet);
-        let holds = read.as_ref().map(|packet| packet.contents());
-        assert_eq!(holds, case.result.as_ref().copied(), "{}", case.name);
+        let holds = read.map(|packet| packet.contents());
+        assert_eq!(holds, case.result, "{}", case.name);
+    }
+}
+
+/// At this level something else comes of those that need a higher one.
+#[test]
+fn cases_left_out() {
+    for case in paper::left_out() {
+        assert!(left_out(case.name, case.level));
+        let read = read(case.expected, case.t140, case.red, &case.packet);
+        assert_eq!(read.err(), Some(refusal::OLDER_TOO_MANY), "{}", case.name);
+        assert_ne!(case.result, Err(refusal::OLDER_TOO_MANY), "{}", case.name);
     }
 }
 
@@ -25,7 +36,8 @@ fn blocks_are_parts_of_the_packet() {
     let cases = paper::cases();
     let case = cases.iter().find(|case| case.name == "T3").unwrap();
     let packet = read(None, 98, 100, &case.packet).unwrap();
-    assert_eq!(packet.block(&packet.older()[0]), b"A");
+    let older: Vec<_> = packet.older().collect();
+    assert_eq!((older.len(), packet.block(&older[0])), (1, &b"A"[..]));
     assert_eq!(packet.primary(), b"");
 }
 

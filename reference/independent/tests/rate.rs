@@ -4,6 +4,7 @@ mod common;
 
 use common::sent;
 use independent::sender::{Clocked, Sender, Settings};
+use independent::LEVEL;
 
 /// One character a second, and so ten in ten seconds.
 const SLOW: Settings = Settings {
@@ -55,7 +56,8 @@ fn rates() {
         ..bad
     };
     assert_eq!(refused(bad), Some(2));
-    assert_eq!(refused(Settings { level: 5, ..bad }), Some(1));
+    let level = LEVEL + 1;
+    assert_eq!(refused(Settings { level, ..bad }), Some(1));
 }
 
 #[test]

@@ -3,10 +3,10 @@
 mod lines;
 
 use independent::channel::{Delivery, Line, State};
-use independent::read;
 use independent::receiver::{Answer, Receiver};
 use independent::record::{add, expected, in_window, run, Entry, Sent, AHEAD, BEHIND};
 use independent::sender::Settings;
+use independent::{read, LEVEL};
 use lines::{another_makers, long_line, ours, Make};
 
 const LISTS: u64 = 2000;
@@ -122,7 +122,7 @@ fn random_lines(level: usize, make: Make) -> Met {
 /// None of its packets is refused for its ages.
 #[test]
 fn random_lines_of_our_sender() {
-    for level in 0..=4 {
+    for level in 0..=LEVEL {
         let met = random_lines(level, ours);
         assert_eq!(met.wrong_ages, 0, "level {level}");
     }
@@ -130,7 +130,7 @@ fn random_lines_of_our_sender() {
 
 #[test]
 fn random_lines_of_another_makers_sender() {
-    for level in 0..=4 {
+    for level in 0..=LEVEL {
         let met = random_lines(level, another_makers);
         assert_eq!(met.wrong_ages > 10, level > 0, "level {level}");
     }
@@ -138,7 +138,7 @@ fn random_lines_of_another_makers_sender() {
 
 #[test]
 fn long_lines_to_the_ends_of_the_window() {
-    for level in 0..=4 {
+    for level in 0..=LEVEL {
         let mut met = Met::default();
         long_line(level, |_, settings, line, deliveries| {
             receive(settings, line, deliveries, &mut met);

@@ -3,11 +3,11 @@
 mod common;
 
 use common::sent;
-use independent::sender::{Clocked, Sender, Settings};
-use independent::{read, Packet};
+use independent::sender::{Clocked, Sender, Settings, LONGEST_PACKET};
+use independent::{left_out, read, Packet, LEVEL};
 
 const USUAL: Settings = Settings {
-    level: 2,
+    level: LEVEL,
     buffering: 300,
     rate: 30,
     t140: 98,
@@ -33,8 +33,8 @@ fn seen(packet: &[u8]) -> Packet<'_> {
 /// Older blocks with their offsets, and the primary.
 fn blocks(packet: &[u8]) -> (Vec<(u16, Vec<u8>)>, Vec<u8>) {
     let packet = seen(packet);
-    let older = packet.older().iter();
-    let older = older.map(|older| (older.offset, packet.block(older).to_vec()));
+    let older = packet.older();
+    let older = older.map(|older| (older.offset, packet.block(&older).to_vec()));
     (older.collect(), packet.primary().to_vec())
 }
 
@@ -44,6 +44,9 @@ fn marker(sender: &mut Sender, clock: u64) -> bool {
 
 #[test]
 fn t11() {
+    if left_out("T11", 2) {
+        return;
+    }
     let mut sender = open(2, 300);
     sender.offer(0, b"A").unwrap();
     let packet = sent(&mut sender, 0).unwrap();
@@ -97,16 +100,16 @@ fn run_only_160_and_161_bytes_offered() {
 #[test]
 fn run_only_bad_letters_offered() {
     for text in [&[0xc0, 0x80][..], &[0xf4, 0x90, 0x80, 0x80]] {
-        let mut sender = open(2, 300);
+        let mut sender = open(LEVEL, 300);
         assert_eq!(sender.offer(0, text), Err(6));
-        assert_eq!(sender, open(2, 300));
+        assert_eq!(sender, open(LEVEL, 300));
     }
 }
 
 /// Time 300, text sent at 0 and offered at 300 or 301.
 #[test]
 fn run_only_marker_after_300_and_301() {
-    for level in 0..=4 {
+    for level in 0..=LEVEL {
         for (offered, expected) in [(300, false), (301, true)] {
             let mut sender = open(level, 300);
             sender.offer(0, b"A").unwrap();
@@ -120,7 +123,7 @@ fn run_only_marker_after_300_and_301() {
 /// The first waiting byte counts, from the last packet that had text.
 #[test]
 fn marker_counts_the_first_byte_and_the_last_text() {
-    let mut sender = open(2, 300);
+    let mut sender = open(LEVEL, 300);
     sender.offer(0, b"A").unwrap();
     sent(&mut sender, 0).unwrap();
     sender.offer(300, b"B").unwrap();
@@ -138,25 +141,23 @@ fn marker_counts_the_first_byte_and_the_last_text() {
 fn openings() {
     let refused = |settings| Sender::open(settings).err();
     let bad = Settings {
-        level: 5,
         buffering: 0,
         t140: 0,
         ..USUAL
     };
-    assert_eq!(refused(bad), Some(1));
-    assert_eq!(refused(Settings { level: 4, ..bad }), Some(2));
+    assert_eq!(refused(bad), Some(2));
+    for level in [LEVEL + 1, LEVEL + 2, 255, 256, 1 << 32, usize::MAX] {
+        assert_eq!(refused(Settings { level, ..bad }), Some(1));
+        assert_eq!(refused(Settings { level, ..USUAL }), Some(1));
+    }
     let buffering = |buffering| Settings { buffering, ..USUAL };
     assert_eq!(refused(buffering(501)), Some(2));
     assert_eq!(refused(buffering(u64::MAX)), Some(2));
     assert_eq!(refused(buffering(500)), None);
     assert_eq!(refused(buffering(1)), None);
-    assert_eq!(
-        refused(Settings {
-            level: 255,
-            ..USUAL
-        }),
-        Some(1)
-    );
+    for level in 0..=LEVEL {
+        assert_eq!(refused(Settings { level, ..USUAL }), None);
+    }
     for (t140, red) in [(95, 100), (128, 100), (98, 95), (98, 128), (98, 98)] {
         assert_eq!(refused(Settings { t140, red, ..USUAL }), Some(3));
     }
@@ -174,7 +175,7 @@ fn the_zero_sender() {
 /// 5, 7, 6, 4: each text below earns its number and those after it.
 #[test]
 fn refusal_orders() {
-    let mut sender = open(2, 300);
+    let mut sender = open(LEVEL, 300);
     sender.offer(0, &[b'a'; 160]).unwrap();
     assert_eq!(sent(&mut sender, 100).unwrap().len(), 173);
     sender.offer(100, &[b'b'; 160]).unwrap();
@@ -196,7 +197,7 @@ fn refusal_orders() {
 /// A refusal keeps no clock, 8 included; quiet does.
 #[test]
 fn which_calls_keep_the_clock() {
-    let mut sender = open(2, 300);
+    let mut sender = open(LEVEL, 300);
     sender.offer(10, b"A").unwrap();
     assert_eq!(sender.clock(500, &mut [0; 13]), Clocked::Refused(8));
     assert_eq!(sender.offer(400, b"B"), Ok(()));
@@ -212,7 +213,7 @@ fn which_calls_keep_the_clock() {
 
 #[test]
 fn space_one_byte_short_and_bytes_past_the_packet() {
-    for level in 0..=4 {
+    for level in 0..=LEVEL {
         let mut sender = open(level, 1);
         for clock in 0..8 {
             sender.offer(clock, b"ab").unwrap();
@@ -230,38 +231,39 @@ fn space_one_byte_short_and_bytes_past_the_packet() {
             assert_eq!(answer, Clocked::Sent(packet.len()));
             assert_eq!(space[..packet.len()], packet);
             assert!(space[packet.len()..].iter().all(|&byte| byte == 0x55));
-            let mut space = [0x55; 900];
+            let mut space = [0x55; LONGEST_PACKET];
             assert_eq!(sender.clock(clock, &mut space), Clocked::Quiet);
-            assert_eq!(space, [0x55; 900]);
+            assert_eq!(space, [0x55; LONGEST_PACKET]);
         }
     }
 }
 
-/// The last four blocks sent are kept at every level, and nothing else of
-/// what was sent counts.
+/// As many blocks as the highest level repeats are kept at every level, and
+/// nothing else of what was sent counts.
 #[test]
 fn blocks_kept() {
-    for level in 0..=4 {
+    let text = |k: usize| vec![b'a' + k as u8; 1 + k % 3];
+    let at = |k: usize| 1000 * k as u64 + 300;
+    for level in 0..=LEVEL {
         let mut sender = open(level, 300);
         assert_eq!(sender.waiting().clock, 0);
         assert!(sender.waiting().is_empty());
         assert_eq!(sender.blocks().count(), 0);
         assert_eq!((sender.last_packet(), sender.last_text()), (None, None));
-        for (k, text) in ["a", "bc", "d", "efg", "h", "ij"].iter().enumerate() {
-            let clock = 1000 * k as u64 + 300;
-            sender.offer(clock - 200, text.as_bytes()).unwrap();
-            assert_eq!(sender.waiting().clock, clock - 200);
-            assert_eq!(sender.waiting().text(), text.as_bytes());
-            sent(&mut sender, clock).unwrap();
+        for k in 0..LEVEL + 2 {
+            sender.offer(at(k) - 200, &text(k)).unwrap();
+            assert_eq!(sender.waiting().clock, at(k) - 200);
+            assert_eq!(sender.waiting().text(), text(k));
+            sent(&mut sender, at(k)).unwrap();
             assert_eq!(sender.waiting().clock, 0);
             assert_eq!(sender.waiting().len(), 0);
-            assert_eq!(sender.blocks().count(), 4.min(k + 1));
+            let blocks = sender.blocks();
+            let blocks = blocks.map(|block| (block.clock, block.text().to_vec()));
+            let kept = (0..=k).rev().take(LEVEL);
+            assert!(blocks.eq(kept.map(|k| (at(k), text(k)))));
         }
-        let blocks = sender.blocks().map(|block| (block.clock, block.text()));
-        let kept: [(u64, &[u8]); 4] = [(5300, b"ij"), (4300, b"h"), (3300, b"efg"), (2300, b"d")];
-        assert_eq!(blocks.collect::<Vec<_>>(), kept);
-        assert_eq!(sender.sequence(), 5);
-        assert_eq!(sender.last_text(), Some(5300));
+        assert_eq!(usize::from(sender.sequence()), LEVEL + 1);
+        assert_eq!(sender.last_text(), Some(at(LEVEL + 1)));
     }
     // Two senders that differ in a block no longer kept become equal.
     let mut senders = [b"x", b"y"].map(|first| {
@@ -270,7 +272,7 @@ fn blocks_kept() {
         sent(&mut sender, 0).unwrap();
         sender
     });
-    for clock in 1..=4 {
+    for clock in 1..=LEVEL as u64 {
         assert_ne!(senders[0], senders[1]);
         for sender in &mut senders {
             sender.offer(clock, b"z").unwrap();

@@ -72,7 +72,8 @@ pub fn save(journal: &[u8]) -> Option<PathBuf> {
     fs::write(&path, journal).ok().map(|()| path)
 }
 
-fn run(program: &Program, journal: &[u8], feeding: &Feeding) -> Result<Ended, String> {
+/// Gives a journal to the program and waits for its end.
+pub fn run(program: &Program, journal: &[u8], feeding: &Feeding) -> Result<Ended, String> {
     if *feeding == Feeding::File || journal.len() > PIPE {
         return run_on_file(program, journal);
     }

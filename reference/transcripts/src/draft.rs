@@ -5,19 +5,27 @@ use independent::journal::{END, LONGEST, OPEN, PACKET, TIME};
 use independent::maker;
 use independent::random::Random;
 use independent::recorder::Recorder;
+use independent::sender::Settings;
+use independent::LEVEL;
 
 /// A journal's records: each of them, and a packet with all its pieces as
 /// one.
 pub type Draft = Vec<Vec<u8>>;
 
 /// A good journal of some of a line's packets, with times. Now and then a
-/// packet has another number, or all have from there on.
+/// packet has another number, or all have from there on; and another maker's
+/// sender repeats more than is read.
 pub fn draft(random: &mut Random, packets: usize) -> Draft {
-    let level = random.below(5);
+    let level = random.within(0, LEVEL);
     let settings = settings(random, level);
-    let line = match random.once_in(2) {
-        true => maker::line(random, &settings, packets),
-        false => send(settings, &calls(random, settings.buffering, 4 * packets)),
+    let too_many = Settings {
+        level: LEVEL + 1,
+        ..settings
+    };
+    let line = match random.below(8) {
+        0 => maker::line(random, &too_many, packets),
+        1..4 => maker::line(random, &settings, packets),
+        _ => send(settings, &calls(random, settings.buffering, 4 * packets)),
     };
     let mut draft = vec![];
     times(random, &mut draft);

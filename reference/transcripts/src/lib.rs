@@ -8,6 +8,7 @@ use std::os::fd::AsFd;
 pub mod check;
 pub mod damage;
 pub mod draft;
+pub mod level;
 pub mod live;
 pub mod program;
 pub mod random_runs;

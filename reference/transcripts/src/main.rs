@@ -7,9 +7,10 @@ use std::io::{self, ErrorKind, Write};
 use std::process::exit;
 use std::time::Instant;
 
+use independent::LEVEL;
 use transcripts::check::Difference;
 use transcripts::program::Program;
-use transcripts::{live, random_runs, stored, UNREAD};
+use transcripts::{level, live, random_runs, stored, UNREAD};
 
 const USAGE: &str = "\
 Usage: transcripts [--seed N] [--journals N]
@@ -75,17 +76,20 @@ fn say(line: &str) {
 }
 
 fn run(program: &Program, options: &Options) -> Result<(), Difference> {
-    let runs = stored::load(&stored::directory())?;
+    level::check(program)?;
+    let mut runs = stored::load(&stored::directory())?;
     if runs.is_empty() {
         return Err(String::from("no stored runs").into());
     }
+    runs.extend(stored::load(&stored::samples())?);
+    let stored = runs.len();
+    runs.retain(|run| run.level <= LEVEL);
     stored::check_all(program, &runs)?;
-    let samples = stored::load(&stored::samples())?;
-    stored::check_all(program, &samples)?;
-    say(&format!(
-        "{} stored runs: the same",
-        runs.len() + samples.len()
-    ));
+    say(&format!("{} stored runs: the same", runs.len()));
+    if runs.len() < stored {
+        let left_out = stored - runs.len();
+        say(&format!("{left_out} need a higher level: left out"));
+    }
 
     live::text_at_once(program)?;
     say("text comes at once");

@@ -7,7 +7,7 @@ use independent::journal::{self, Break, Finish};
 use independent::random::Random;
 use independent::receiver::{Answer, Receiver};
 use independent::transcript::{text, transcript};
-use independent::{read, refusal};
+use independent::{read, refusal, LEVEL};
 
 use crate::check::{check, Difference, Feeding};
 use crate::damage::{change, follow, spoil};
@@ -21,6 +21,8 @@ const ENOUGH: usize = 2000;
 #[derive(Default)]
 pub struct Met {
     kinds: BTreeMap<&'static str, usize>,
+    /// Journals with a good packet, by the number of its older blocks.
+    older: [usize; LEVEL + 1],
 }
 
 impl Met {
@@ -37,6 +39,11 @@ impl Met {
             Finish::Broken(Break::Length) => "broken by a length",
             Finish::Broken(Break::Filling) => "broken by filling",
         });
+        let reads = reads(journal);
+        for (older, journals) in self.older.iter_mut().enumerate() {
+            *journals += usize::from(reads.contains(&Ok(older)));
+        }
+        let refused = |number| reads.contains(&Err(number));
         let (text, counts) = text(journal);
         let broken = journal.finish != Finish::End;
         let late = |answer: &Answer| matches!(answer, Answer::Late { .. });
@@ -50,7 +57,14 @@ impl Met {
             ("with a break", answered(journal, after_a_jump)),
             ("with a loss", counts.lost > 0),
             ("with a refused packet", counts.refused > 0),
-            ("with a packet of impossible ages", impossible_ages(journal)),
+            (
+                "with a packet of impossible ages",
+                refused(refusal::BLOCK_AGES),
+            ),
+            (
+                "with a packet of one older block too many",
+                refused(refusal::OLDER_TOO_MANY),
+            ),
         ] {
             if met {
                 self.add(kind);
@@ -58,14 +72,19 @@ impl Met {
         }
     }
 
-    fn missing(&self) -> Option<&'static str> {
-        KINDS
-            .into_iter()
-            .find(|kind| !self.kinds.contains_key(kind))
+    fn missing(&self) -> Option<String> {
+        let mut kinds = KINDS.into_iter();
+        let kind = kinds.find(|kind| !self.kinds.contains_key(kind));
+        let older = self.older.iter().position(|journals| *journals == 0);
+        kind.map(String::from).or(older.map(with_older))
     }
 }
 
-const KINDS: [&str; 18] = [
+fn with_older(older: usize) -> String {
+    format!("with a good packet of {older} older blocks")
+}
+
+const KINDS: [&str; 19] = [
     "whole",
     "broken by an early end",
     "broken by a kind",
@@ -80,6 +99,7 @@ const KINDS: [&str; 18] = [
     "with a loss",
     "with a refused packet",
     "with a packet of impossible ages",
+    "with a packet of one older block too many",
     "fed in pieces",
     "fed without an end of input",
     "fed up to the end or the break, without an end of input",
@@ -96,20 +116,25 @@ fn answered(journal: &journal::Journal, such: fn(&Answer) -> bool) -> bool {
     packets.any(|packet| such(&receiver.step(packet)))
 }
 
-fn impossible_ages(journal: &journal::Journal) -> bool {
+/// The number of older blocks of each packet, or its refusal.
+fn reads(journal: &journal::Journal) -> Vec<Result<usize, u8>> {
     let Some((t140, red)) = journal.opening else {
-        return false;
+        return vec![];
     };
-    let refused = |packet: &Vec<u8>| read(None, t140, red, packet).err();
-    let mut refused = journal.packets.iter().map(refused);
-    refused.any(|number| number == Some(refusal::BLOCK_AGES))
+    let older = |packet: &Vec<u8>| Ok(read(None, t140, red, packet)?.older().len());
+    journal.packets.iter().map(older).collect()
 }
 
 /// A line for each kind.
 impl Display for Met {
     fn fmt(&self, f: &mut Formatter<'_>) -> fmt::Result {
-        let mut kinds = self.kinds.iter();
-        kinds.try_for_each(|(kind, count)| write!(f, "\n  {kind}: {count}"))
+        for (kind, count) in &self.kinds {
+            write!(f, "\n  {kind}: {count}")?;
+        }
+        for (older, count) in self.older.iter().enumerate() {
+            write!(f, "\n  {}: {count}", with_older(older))?;
+        }
+        Ok(())
     }
 }
 

@@ -1,5 +1,6 @@
 //! Stored runs: a journal and what must be printed for it, as files.
 
+use std::collections::BTreeMap;
 use std::fs;
 use std::io;
 use std::path::{Path, PathBuf};
@@ -16,6 +17,8 @@ pub struct Run {
     pub name: String,
     pub journal: Vec<u8>,
     pub printed: Vec<u8>,
+    /// The least highest level at which this is printed.
+    pub level: usize,
 }
 
 pub fn directory() -> PathBuf {
@@ -29,16 +32,16 @@ pub fn samples() -> PathBuf {
 /// The stored runs, by name.
 pub fn load(directory: &Path) -> Result<Vec<Run>, String> {
     let wrong = |error: io::Error| format!("{}: {error}", directory.display());
+    let made = made().into_iter().chain([sample()]);
+    let levels: BTreeMap<String, usize> = made.map(|run| (run.name, run.level)).collect();
     let mut runs = vec![];
     for entry in fs::read_dir(directory).map_err(wrong)? {
         let path = entry.map_err(wrong)?.path();
         if path.extension().is_some_and(|kind| kind == "journal") {
+            let name = path.file_stem().unwrap_or_default().to_string_lossy();
             runs.push(Run {
-                name: path
-                    .file_stem()
-                    .unwrap_or_default()
-                    .to_string_lossy()
-                    .into(),
+                level: levels.get(&*name).copied().unwrap_or(1),
+                name: name.into(),
                 journal: fs::read(&path).map_err(wrong)?,
                 printed: fs::read(path.with_extension("expected")).map_err(wrong)?,
             });
@@ -65,8 +68,9 @@ pub fn made() -> Vec<Run> {
         name: case.name.into(),
         journal: case.journal,
         printed: case.printed,
+        level: case.level,
     };
-    journals::cases().into_iter().map(run).collect()
+    journals::all().into_iter().map(run).collect()
 }
 
 /// A short line: repeats that fill a gap, a loss, a late packet and a
@@ -89,6 +93,7 @@ pub fn sample() -> Run {
         name: "sample".into(),
         journal: packets.iter().zip(0..).fold(opened, record).end(),
         printed: "Good morning, \u{fffd}desk 7\npackets 4 late 1 lost 1 refused 1\n".into(),
+        level: 2,
     }
 }
 

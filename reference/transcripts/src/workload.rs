@@ -6,6 +6,9 @@ use independent::recorder::Recorder;
 const T140: u8 = 98;
 const RED: u8 = 100;
 
+/// The older blocks of its RED packets.
+pub const OLDER: usize = 2;
+
 /// A journal and how many packets of each kind it holds.
 pub struct Workload {
     pub journal: Vec<u8>,
@@ -22,7 +25,7 @@ pub fn workload(seed: u64, packets: usize) -> Workload {
     let mut random = Random::new(seed);
     let mut line = Line {
         sequence: 65_000,
-        blocks: [vec![], vec![], vec![]],
+        blocks: Default::default(),
     };
     let mut recorder = Recorder::open(T140, RED);
     let mut counts = [0; 4];
@@ -46,16 +49,16 @@ pub fn workload(seed: u64, packets: usize) -> Workload {
     }
 }
 
-/// The last three blocks, oldest first, and the last one's number.
+/// The last blocks, oldest first, and the last one's number.
 struct Line {
     sequence: u16,
-    blocks: [Vec<u8>; 3],
+    blocks: [Vec<u8>; OLDER + 1],
 }
 
 impl Line {
     fn type_on(&mut self, random: &mut Random) {
         self.blocks.rotate_left(1);
-        self.blocks[2] = letters(random);
+        self.blocks[OLDER] = letters(random);
         self.sequence = self.sequence.wrapping_add(1);
     }
 
@@ -80,7 +83,7 @@ impl Line {
 
     fn t140(&self) -> Vec<u8> {
         let mut packet = self.header(T140);
-        packet.extend(&self.blocks[2]);
+        packet.extend(&self.blocks[OLDER]);
         packet
     }
 

@@ -1,6 +1,7 @@
 //! The stored runs are the cases they were made from.
 
 use independent::transcript::transcript;
+use independent::LEVEL;
 use transcripts::stored::{directory, load, made, sample, samples, Run};
 
 fn same(stored: &[Run], mut made: Vec<Run>) {
@@ -10,7 +11,9 @@ fn same(stored: &[Run], mut made: Vec<Run>) {
         assert_eq!(stored.name, made.name);
         assert!(stored.journal == made.journal, "{}", made.name);
         assert!(stored.printed == made.printed, "{}", made.name);
-        assert!(transcript(&made.journal) == made.printed, "{}", made.name);
+        assert_eq!(stored.level, made.level, "{}", made.name);
+        let printed = transcript(&made.journal) == made.printed;
+        assert_eq!(printed, made.level <= LEVEL, "{}", made.name);
     }
 }
 

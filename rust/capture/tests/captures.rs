@@ -5,6 +5,8 @@ use capture::options::Options;
 use independent::journal;
 use independent::transcript::transcript;
 
+mod stored;
+
 const RED: &[u8] = include_bytes!("../../../reference/captures/ms2_red_typed1.hex");
 const RED_ALONE: &[u8] = include_bytes!("../../../reference/captures/ms2_red_typed1_rtponly.hex");
 const T140: &[u8] = include_bytes!("../../../reference/captures/ms2_t140_typed1.hex");
@@ -22,25 +24,27 @@ fn printed(capture: &[u8], options: &Options) -> String {
 /// next ones' repeats.
 #[test]
 fn typed_text() {
-    let options = Options::default();
-    for (capture, counts) in [
-        (RED, "packets 14 late 0 lost 0 refused 3"),
-        (RED_ALONE, "packets 14 late 0 lost 0 refused 1"),
-        (T140, "packets 7 late 0 lost 0 refused 2"),
+    let red = |counts, packets| stored::red(TYPED, counts, packets);
+    for (capture, expected) in [
+        (RED, red("packets 14 late 0 lost 0 refused 3", 17)),
+        (RED_ALONE, red("packets 14 late 0 lost 0 refused 1", 15)),
+        (
+            T140,
+            format!("{TYPED}\npackets 7 late 0 lost 0 refused 2\n"),
+        ),
     ] {
-        assert_eq!(printed(capture, &options), format!("{TYPED}\n{counts}\n"));
+        assert_eq!(printed(capture, &Options::default()), expected);
     }
 }
 
 #[test]
 fn lossy_line() {
-    let expected = "Hello, worldé€😀x\u{fffd}\u{fffd}\n\npackets 8 late 0 lost 2 refused 1\n";
     for ports in [vec![], vec![40_001], vec![40_011], vec![5004, 40_001]] {
         let options = Options {
             ports,
             ..Options::default()
         };
-        assert_eq!(printed(LOSSY, &options), expected);
+        assert_eq!(printed(LOSSY, &options), stored::lossy());
     }
 }
 

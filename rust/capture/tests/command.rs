@@ -8,11 +8,12 @@ use std::process::{Command, Output, Stdio};
 
 use independent::transcript::transcript;
 
+mod stored;
+
 const CAPTURE: &str = concat!(
     env!("CARGO_MANIFEST_DIR"),
     "/../../reference/captures/ms2_red_typed1_lossy.pcap"
 );
-const EXPECTED: &str = "Hello, worldé€😀x\u{fffd}\u{fffd}\n\npackets 8 late 0 lost 2 refused 1\n";
 
 fn run(arguments: &[&str], input: &[u8]) -> Output {
     let mut child = Command::new(env!("CARGO_BIN_EXE_capture-to-journal"))
@@ -55,7 +56,7 @@ fn to_standard_output() {
     let output = run(&[&settings[..], &[CAPTURE]].concat(), b"");
     assert_eq!(text(&output.stderr), "");
     assert_eq!(output.status.code(), Some(0));
-    assert_eq!(text(&transcript(&output.stdout)), EXPECTED);
+    assert_eq!(text(&transcript(&output.stdout)), stored::lossy());
     let capture = fs::read(CAPTURE).unwrap();
     for arguments in [&settings[..], &["-"], &[]] {
         assert_eq!(run(arguments, &capture).stdout, output.stdout);
@@ -74,7 +75,8 @@ fn to_a_file() {
         let output = run(&["-o", name, CAPTURE], b"");
         assert_eq!(output.status.code(), Some(0), "{}", text(&output.stderr));
         assert_eq!(output.stdout, b"");
-        assert_eq!(text(&transcript(&fs::read(&journal).unwrap())), EXPECTED);
+        let printed = transcript(&fs::read(&journal).unwrap());
+        assert_eq!(text(&printed), stored::lossy());
         assert_eq!(files(&directory), ["call.journal"]);
     }
 }
@@ -91,7 +93,8 @@ fn mode_of_a_file() {
         assert_eq!(output.status.code(), Some(0), "{}", text(&output.stderr));
         let after = fs::metadata(&journal).unwrap().permissions().mode();
         assert_eq!(after & 0o7777, mode);
-        assert_eq!(text(&transcript(&fs::read(&journal).unwrap())), EXPECTED);
+        let printed = transcript(&fs::read(&journal).unwrap());
+        assert_eq!(text(&printed), stored::lossy());
         fs::remove_file(&journal).unwrap();
     }
 }

@@ -1,6 +1,8 @@
 use std::io::Write;
 use std::process::{Command, Output, Stdio};
 
+use stewpigeon::Packet;
+
 fn inspect(arguments: &[&str], input: &str) -> Output {
     let mut child = Command::new(env!("CARGO_BIN_EXE_stewpigeon-inspect"))
         .args(arguments)
@@ -20,11 +22,15 @@ fn text(bytes: &[u8]) -> &str {
 
 #[test]
 fn packets_and_refusals() {
-    let input = "# comment\n\n\
-                 80e40005000003e811223344e204b001624108\n\
-                 80 62\n\
-                 80e4fffd0b7be89c5b8e4731e204b000e204b0006248656c6c6f\n";
-    let output = inspect(&[], input);
+    let above = "e204b000".repeat(Packet::LEVEL + 1);
+    let input = format!(
+        "# comment\n\n\
+         80e40005000003e811223344e204b001624108\n\
+         80 62\n\
+         80e4fffd0b7be89c5b8e4731e20000006248656c6c6f\n\
+         80e4fffd0b7be89c5b8e4731{above}6248656c6c6f\n"
+    );
+    let output = inspect(&[], &input);
     assert_eq!(output.status.code(), Some(0));
     let expected = "\
 line 3: marker 1 sequence 5 timestamp 1000 source 11223344
@@ -32,6 +38,7 @@ line 3: marker 1 sequence 5 timestamp 1000 source 11223344
     primary: \"\\u{8}\"
 line 4: refused 10: packet under 12 bytes
 line 5: refused 22: older blocks' time offsets do not fall to 1 or more
+line 6: refused 18: an older block too many
 ";
     assert_eq!(text(&output.stdout), expected);
 }

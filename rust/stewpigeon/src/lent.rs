@@ -88,7 +88,7 @@ impl Packet {
         timestamp: 0,
         source: 0,
         count: 0,
-        older: [Block::ZERO; 4],
+        older: [Block::ZERO; crate::Packet::LEVEL],
         primary: 0,
         end: 0,
     };
@@ -120,8 +120,8 @@ impl Sender {
         len: 0,
         characters: 0,
         since: 0,
-        lens: [0; 4],
-        ats: [0; 4],
+        lens: [0; crate::Sender::LEVEL],
+        ats: [0; crate::Sender::LEVEL],
         count: 0,
         pace: Pace { next: 0, used: 0 },
         progress: Progress {

@@ -88,7 +88,8 @@ impl HoldingStep {
 #[repr(C)]
 #[derive(Clone, Copy, Debug, PartialEq, Eq)]
 pub struct Settings {
-    /// How many older blocks each packet repeats, at most 4.
+    /// How many older blocks each packet repeats, at most
+    /// [`crate::Packet::LEVEL`].
     pub level: usize,
     /// The buffering time in ms, 1 to 500.
     pub buffering: u64,
@@ -134,14 +135,14 @@ pub struct Progress {
 }
 
 /// A sender's state but for its texts and its log. A `room` past the last slot
-/// counts as 0, lengths and `characters` count up to 160, and `count` up to 4.
+/// counts as 0, and lengths, `characters` and `count` count up to what there is.
 #[repr(C)]
 #[derive(Clone, Copy, Debug, PartialEq, Eq)]
 pub struct Sender {
     pub settings: Settings,
     /// The latest accepted clock.
     pub clock: u64,
-    /// The slot of the texts in which text waits, 0 to 4.
+    /// The slot of the texts in which text waits.
     pub room: usize,
     /// How many bytes wait there.
     pub len: usize,
@@ -150,9 +151,9 @@ pub struct Sender {
     /// When the first of them was offered, or a packet left it behind.
     pub since: u64,
     /// The lengths of the last blocks sent, newest first.
-    pub lens: [usize; 4],
+    pub lens: [usize; crate::Sender::LEVEL],
     /// When each of them was sent.
-    pub ats: [u64; 4],
+    pub ats: [u64; crate::Sender::LEVEL],
     /// How many of them there are.
     pub count: usize,
     pub pace: Pace,
@@ -182,7 +183,7 @@ pub struct Packet {
     /// How many older blocks there are.
     pub count: usize,
     /// These, oldest first; zeros past the count.
-    pub older: [Block; 4],
+    pub older: [Block; crate::Packet::LEVEL],
     /// Where the primary starts.
     pub primary: usize,
     /// Where it ends.
@@ -202,13 +203,13 @@ pub struct TextAnswer {
     pub place: usize,
 }
 
-/// A sender's texts: five slots of 160 bytes, used in a circle. The last
-/// blocks sent lie in the slots before the one in which text waits, the
-/// newest nearest.
-pub type Texts = [u8; 800];
+/// A sender's texts: a slot of 160 bytes for what waits and one for each
+/// repeat, used in a circle. The last blocks sent lie in the slots before the
+/// one in which text waits, the newest nearest.
+pub type Texts = [u8; crate::Sender::SLOTS * crate::Sender::ROOM];
 
 /// A sender's log: when each of the last characters was sent.
-pub type Log = [u64; 1000];
+pub type Log = [u64; crate::Sender::LOG];
 
 extern "C" {
     pub fn stewpigeon_read(

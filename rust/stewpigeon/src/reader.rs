@@ -23,8 +23,9 @@ pub struct Packet<'a> {
 }
 
 impl<'a> Packet<'a> {
-    /// The most older blocks a packet may carry.
-    pub const LEVEL: usize = 4;
+    /// The most older blocks a packet may carry: the highest level, from 1 to
+    /// 7, that the library was built with.
+    pub const LEVEL: usize = 7;
     /// The bytes of the shortest packet that is read.
     pub const SHORTEST: usize = 12;
     /// The bytes of the longest packet that is read.

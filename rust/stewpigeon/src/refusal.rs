@@ -1,7 +1,10 @@
 //! Why a call refuses.
 
+use std::borrow::Cow;
 use std::error::Error;
 use std::fmt::{self, Display, Formatter};
+
+use crate::Sender;
 
 /// A refusal. It changes nothing: neither the receiver or sender, nor a lent
 /// byte.
@@ -80,9 +83,9 @@ impl Refusal {
     }
 
     /// What is wrong.
-    pub fn meaning(self) -> &'static str {
+    pub fn meaning(self) -> Cow<'static, str> {
         match self {
-            Refusal::Level => "repeat level above 4",
+            Refusal::Level => return format!("repeat level above {}", Sender::LEVEL).into(),
             Refusal::Buffering => "buffering time 0 or above 500 ms",
             Refusal::PayloadTypes => "payload types outside 96..127, or equal",
             Refusal::WaitingRoom => "offered text does not fit in the 160 bytes waiting room",
@@ -99,26 +102,32 @@ impl Refusal {
             Refusal::PayloadType => "payload type is neither T140 nor RED",
             Refusal::Source => "source differs from the expected one",
             Refusal::BlockHeaders => "block headers pass the end",
-            Refusal::BlockCount => "a fifth older block",
+            Refusal::BlockCount => "an older block too many",
             Refusal::BlockType => "a block's type is not T140",
             Refusal::BlockLengths => "older blocks' lengths pass the end",
             Refusal::BlockText => "a block is not UTF-8",
             Refusal::BlockAges => "older blocks' time offsets do not fall to 1 or more",
             Refusal::HeldPacket => "the packet lent as held is refused or has another number",
         }
+        .into()
     }
 
     /// What to do about it.
-    fn remedy(self) -> &'static str {
+    fn remedy(self) -> Cow<'static, str> {
         match self {
-            Refusal::Level => "open with a level from 0 to 4",
+            Refusal::Level => {
+                return format!("open with a level from 0 to {}", Sender::LEVEL).into()
+            }
             Refusal::Buffering => "open with 1 to 500 ms, 300 being usual",
             Refusal::PayloadTypes => "give two different payload types from 96 to 127",
             Refusal::WaitingRoom => "offer less, or again once a packet has been sent",
             Refusal::Clock => "give a clock that never goes back",
             Refusal::Text => "offer whole letters of UTF-8",
             Refusal::NoText => "offer at least one letter",
-            Refusal::Space => "lend 829 bytes, which hold every packet, and call again",
+            Refusal::Space => {
+                let all = grouped(Sender::LONGEST_PACKET);
+                return format!("lend {all} bytes, which hold every packet, and call again").into();
+            }
             Refusal::Rate => "open with 1 to 100 characters a second, 30 being usual",
             Refusal::Short => "give whole RTP packets, and drop this one",
             Refusal::Long => "give RTP packets one at a time, and drop this one",
@@ -139,6 +148,7 @@ impl Refusal {
             | Refusal::BlockLengths
             | Refusal::BlockText => "the packet is broken, so drop it",
         }
+        .into()
     }
 
     /// The library's answer, 0 being acceptance.
@@ -147,6 +157,14 @@ impl Refusal {
             0 => Ok(()),
             number => Err(Refusal::of(number).expect("a number of the library's")),
         }
+    }
+}
+
+/// A number with commas between thousands.
+fn grouped(number: usize) -> String {
+    match number {
+        0..1000 => number.to_string(),
+        _ => format!("{},{:03}", grouped(number / 1000), number % 1000),
     }
 }
 

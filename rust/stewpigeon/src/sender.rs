@@ -24,7 +24,7 @@ impl Settings {
 /// use stewpigeon::{Refusal, Sender, Settings};
 ///
 /// let mut sender = Sender::open(Settings {
-///     level: 2,
+///     level: Sender::LEVEL,
 ///     buffering: Settings::BUFFERING,
 ///     rate: Settings::RATE,
 ///     t140: 98,
@@ -70,14 +70,14 @@ impl Sender {
     pub const ROOM: usize = 160;
     /// The age in ms up to which a block is repeated.
     pub const OLDEST: u64 = 16_383;
-    /// The longest packet it writes: a header, four older blocks with theirs,
-    /// and a primary with its own.
-    pub const LONGEST_PACKET: usize = 12 + 4 * Sender::LEVEL + 1 + 5 * Sender::ROOM;
+    /// The longest packet it writes: a header, an older block with its own for
+    /// each repeat, and a primary with its own.
+    pub const LONGEST_PACKET: usize = 12 + 4 * Sender::LEVEL + 1 + Sender::SLOTS * Sender::ROOM;
 
     /// The slots of its texts: the waiting room, and a block for each repeat.
-    const SLOTS: usize = 1 + Sender::LEVEL;
+    pub(crate) const SLOTS: usize = 1 + Sender::LEVEL;
     /// The times in its log: a second's characters for ten seconds.
-    const LOG: usize = 10 * Settings::HIGHEST_RATE;
+    pub(crate) const LOG: usize = 10 * Settings::HIGHEST_RATE;
 
     /// A sender at clock 0.
     pub fn open(settings: Settings) -> Result<Sender, Refusal> {

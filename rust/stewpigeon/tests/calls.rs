@@ -244,10 +244,10 @@ fn sizes() {
     assert_eq!(size_of::<lent::Step>(), 40);
     assert_eq!(size_of::<lent::HoldingReceiver>(), 32);
     assert_eq!(size_of::<lent::HoldingStep>(), 48);
-    assert_eq!(size_of::<lent::Packet>(), 136);
+    assert_eq!(size_of::<lent::Packet>(), 40 + 24 * Sender::LEVEL);
     assert_eq!(size_of::<TextAnswer>(), 24);
-    assert_eq!(size_of::<lent::Sender>(), 200);
-    assert_eq!(size_of::<Texts>(), 800);
+    assert_eq!(size_of::<lent::Sender>(), 136 + 16 * Sender::LEVEL);
+    assert_eq!(size_of::<Texts>(), 160 * (Sender::LEVEL + 1));
     assert_eq!(size_of::<Log>(), 8000);
-    assert_eq!(size_of::<Sender>(), 1008);
+    assert_eq!(size_of::<Sender>(), 304 + 176 * Sender::LEVEL);
 }

@@ -1,6 +1,6 @@
 //! Which packets are forward, late, a jump or a break.
 
-use stewpigeon::{Receiver, Refusal, Step};
+use stewpigeon::{Packet, Receiver, Refusal, Step};
 
 /// A packet of type T140.
 fn packet(sequence: u16) -> Vec<u8> {
@@ -8,13 +8,19 @@ fn packet(sequence: u16) -> Vec<u8> {
     vec![0x80, 98, high, low, 0, 0, 0, 0, 0, 0, 0, 7, b'A']
 }
 
-/// A packet of type RED with two older blocks.
+/// The texts of a packet with as many older blocks as there may be.
+const TEXTS: &[u8] = b"ABCDEFGH".split_at(Packet::LEVEL + 1).0;
+
+/// Such a packet, of type RED.
 fn with_repeats(sequence: u16) -> Vec<u8> {
     let mut packet = packet(sequence);
     packet[1] = 100;
     packet.pop();
-    packet.extend([0xe2, 0x04, 0xb0, 1, 0xe2, 0x02, 0x58, 1, 98]);
-    packet.extend(b"ABC");
+    for age in (1..=Packet::LEVEL as u8).rev() {
+        packet.extend([0xe2, age, 0, 1]);
+    }
+    packet.push(98);
+    packet.extend(TEXTS);
     packet
 }
 
@@ -156,12 +162,13 @@ fn a_break_gives_all_blocks() {
     let Ok(Step::Break { older, given, text }) = receiver.step(&second) else {
         panic!("the second packet is a break");
     };
-    assert_eq!((older, given, text), (2, 3, &b"ABC"[..]));
+    assert_eq!(older, Packet::LEVEL);
+    assert_eq!((given, text), (TEXTS.len(), TEXTS));
     // It is the packet's own bytes.
-    assert!(std::ptr::eq(text, &second[second.len() - 3..]));
+    assert!(std::ptr::eq(text, &second[second.len() - given..]));
     let third = with_repeats(40_002);
     let Ok(Step::Forward { loss, text, .. }) = receiver.step(&third) else {
         panic!("the third packet is forward");
     };
-    assert_eq!((loss, text), (0, &b"C"[..]));
+    assert_eq!((loss, text), (0, &TEXTS[Packet::LEVEL..]));
 }

@@ -1,7 +1,7 @@
 use stewpigeon::{read, Packet, Receiver, Refusal, Sender, Settings, Step};
 
 const SETTINGS: Settings = Settings {
-    level: 2,
+    level: if Sender::LEVEL < 2 { 1 } else { 2 },
     buffering: Settings::BUFFERING,
     rate: Settings::RATE,
     t140: 98,
@@ -25,9 +25,6 @@ fn sent(sender: &mut Sender, clock: u64) -> Vec<u8> {
 #[test]
 fn refused_openings() {
     let refusal = |settings| Sender::open(settings).err();
-    let level = Sender::LEVEL + 1;
-    let bad = Settings { level, ..SETTINGS };
-    assert_eq!(refusal(bad), Some(Refusal::Level));
     for buffering in [0, Settings::LONGEST_BUFFERING + 1] {
         let bad = Settings {
             buffering,
@@ -77,7 +74,7 @@ fn text_through_a_line_that_loses_a_packet() {
     else {
         panic!("the third packet is forward");
     };
-    assert_eq!((loss, distance, older, given), (0, 1, 2, 2));
+    assert_eq!((loss, distance, older, given), (0, 1, SETTINGS.level, 2));
     assert_eq!(text, b"BC");
     // It is the packet's own bytes.
     assert!(std::ptr::eq(text, &third[third.len() - 2..]));
@@ -137,30 +134,11 @@ fn impossible_ages() {
 }
 
 #[test]
-fn the_longest_packet() {
-    let mut sender = open(Settings {
-        level: Sender::LEVEL,
-        buffering: 1,
-        rate: Settings::HIGHEST_RATE,
-        ..SETTINGS
-    });
-    let mut packet = vec![];
-    for clock in 0..6 {
-        sender.offer(clock, &[b'a'; Sender::ROOM]).unwrap();
-        packet = sent(&mut sender, clock);
-    }
-    assert_eq!(packet.len(), Sender::LONGEST_PACKET);
-    let read = read(Some(7), 98, 100, &packet).unwrap();
-    assert_eq!(read.older().len(), Sender::LEVEL);
-    assert_eq!(sender.settings().level, Sender::LEVEL);
-}
-
-#[test]
 fn texts_no_longer_kept_do_not_count() {
     let line = |first: &[u8]| {
         let mut sender = open(SETTINGS);
-        for (clock, text) in [first, b"B", b"C", b"D", b"E"].into_iter().enumerate() {
-            let clock = 300 * clock as u64;
+        let texts = [first].into_iter().chain([&b"B"[..]; Sender::LEVEL]);
+        for (clock, text) in (0..).step_by(300).zip(texts) {
             sender.offer(clock, text).unwrap();
             sent(&mut sender, clock);
         }
@@ -168,7 +146,7 @@ fn texts_no_longer_kept_do_not_count() {
     };
     assert_eq!(line(b"A"), line(b"a"));
     let mut other = line(b"A");
-    other.offer(1200, b"F").unwrap();
+    other.offer(300 * Sender::LEVEL as u64, b"F").unwrap();
     assert_ne!(line(b"A"), other);
 }
 
@@ -184,7 +162,7 @@ fn text_beyond_the_rate() {
     let packet = read(Some(7), 98, 100, &first).unwrap();
     assert_eq!(packet.primary, "å".repeat(10).as_bytes());
     assert_eq!(sender.waiting(), "å".as_bytes());
-    for clock in [300, 600] {
+    for clock in (300..).step_by(300).take(SETTINGS.level) {
         let repeat = sent(&mut sender, clock);
         let repeat = read(Some(7), 98, 100, &repeat).unwrap();
         assert_eq!(repeat.older()[0].text, packet.primary);

@@ -4,7 +4,7 @@ use stewpigeon::lent::{self, sender_clock, sender_offer, sender_open, Guarded, L
 use stewpigeon::{Sender, Settings};
 
 const SETTINGS: Settings = Settings {
-    level: 4,
+    level: Sender::LEVEL,
     buffering: 1,
     rate: Settings::RATE,
     t140: 98,
@@ -13,6 +13,10 @@ const SETTINGS: Settings = Settings {
     timestamp: 0,
     source: 0,
 };
+
+/// The slots of the texts, and their bytes.
+const SLOTS: usize = 1 + Sender::LEVEL;
+const TEXTS: usize = SLOTS * Sender::ROOM;
 
 /// What lies in slots that are not used.
 const UNUSED: u64 = 0x9e37_79b9_7f4a_7c15;
@@ -24,16 +28,16 @@ fn texts_of_a_sender() {
         ..SETTINGS
     };
     let mut sender = lent::Sender::ZERO;
-    let mut texts = [0xee; 800];
+    let mut texts = [0xee; TEXTS];
     let mut log = [UNUSED; 1000];
     assert_eq!(sender_open(&mut sender, &mut texts, settings), 0);
-    assert_eq!(texts, [0; 800]);
-    // Each packet leaves its text where it waited, and the sixth text lies
-    // over the first.
+    assert_eq!(texts, [0; TEXTS]);
+    // Each packet leaves its text where it waited, and the last text lies over
+    // the first.
     let mut wanted = texts;
     let mut space = [0; Sender::LONGEST_PACKET];
-    for (clock, letter) in (0..6).zip(*b"abcdef") {
-        let slot = clock as usize % 5;
+    for (clock, letter) in (0..=SLOTS as u64).zip(b'a'..) {
+        let slot = clock as usize % SLOTS;
         for (place, text) in [(0, &[letter; 7][..]), (7, &[letter; 90])] {
             let number = sender_offer(&mut sender, &mut texts, clock, text);
             wanted[slot * Sender::ROOM + place..][..text.len()].copy_from_slice(text);
@@ -46,17 +50,18 @@ fn texts_of_a_sender() {
         assert!(sender_clock(&mut sender, &mut texts, &mut log, clock, &mut space) > 0);
         assert_eq!((sender.len, sender.characters, sender.since), (0, 0, clock));
     }
-    assert_eq!((sender.room, sender.count), (1, 4));
-    assert_eq!((sender.lens, sender.ats), ([97; 4], [5, 4, 3, 2]));
+    assert_eq!((sender.room, sender.count), (1, Sender::LEVEL));
+    assert_eq!(sender.lens, [97; Sender::LEVEL]);
+    assert!((2..=SLOTS as u64).rev().eq(sender.ats));
     assert_eq!(texts, wanted);
 
     // A refused opening leaves zeros.
     let bad = Settings {
-        level: 5,
+        level: Sender::LEVEL + 1,
         ..settings
     };
     assert_eq!(sender_open(&mut sender, &mut texts, bad), 1);
-    assert_eq!((sender, texts), (lent::Sender::ZERO, [0; 800]));
+    assert_eq!((sender, texts), (lent::Sender::ZERO, [0; TEXTS]));
 }
 
 /// At rate 2 twenty slots are used, in a circle.
@@ -68,7 +73,7 @@ fn log_of_a_sender() {
         ..SETTINGS
     };
     let mut sender = lent::Sender::ZERO;
-    let mut texts: Texts = [0; 800];
+    let mut texts: Texts = [0; TEXTS];
     let mut log = Guarded::<Log>::filled(|| UNUSED);
     let around = log.clone();
     let mut space = [0; Sender::LONGEST_PACKET];
@@ -111,11 +116,11 @@ fn leftovers_of_a_sender() {
         ..SETTINGS
     };
     let mut sender = lent::Sender::ZERO;
-    let mut texts: Texts = [0; 800];
+    let mut texts: Texts = [0; TEXTS];
     let mut log: Log = [UNUSED; 1000];
     let mut space = [0; Sender::LONGEST_PACKET];
     assert_eq!(sender_open(&mut sender, &mut texts, settings), 0);
-    texts = [0xee; 800];
+    texts = [0xee; TEXTS];
     let text = "å".repeat(11);
     assert_eq!(sender_offer(&mut sender, &mut texts, 3, text.as_bytes()), 0);
     let before = (sender, texts, log);
@@ -125,37 +130,42 @@ fn leftovers_of_a_sender() {
         sender_clock(&mut sender, &mut texts, &mut log, 3, &mut space),
         12 + 1 + 20
     );
-    let mut wanted = [0xee; 800];
+    let mut wanted = [0xee; TEXTS];
     wanted[..22].copy_from_slice(text.as_bytes());
     wanted[160..162].copy_from_slice("å".as_bytes());
     assert_eq!(texts, wanted);
     assert_eq!((sender.room, sender.len, sender.characters), (1, 2, 1));
-    assert_eq!((sender.since, sender.lens), (3, [20, 0, 0, 0]));
+    let mut lens = [0; Sender::LEVEL];
+    lens[0] = 20;
+    assert_eq!((sender.since, sender.lens), (3, lens));
 }
 
 #[test]
 fn any_record_is_answered() {
     let mut sender = lent::Sender::ZERO;
-    let mut texts: Texts = [b'a'; 800];
+    let mut texts: Texts = [b'a'; TEXTS];
     let mut log: Log = [0; 1000];
     sender.settings = Settings {
         buffering: 300,
         ..SETTINGS
     };
     (sender.room, sender.len, sender.count) = (usize::MAX, usize::MAX, usize::MAX);
-    (sender.characters, sender.lens) = (usize::MAX, [usize::MAX; 4]);
+    (sender.characters, sender.lens) = (usize::MAX, [usize::MAX; Sender::LEVEL]);
     sender.pace = Pace {
         next: usize::MAX,
         used: usize::MAX,
     };
     let before = sender;
     assert_eq!(sender_offer(&mut sender, &mut texts, 0, b"b"), 4);
-    assert_eq!((sender, texts), (before, [b'a'; 800]));
+    assert_eq!((sender, texts), (before, [b'a'; TEXTS]));
     // All slots are used, and their times lie within the ten seconds.
     let mut space = [0; Sender::LONGEST_PACKET];
     let length = sender_clock(&mut sender, &mut texts, &mut log, 0, &mut space);
     assert_eq!(length, Sender::LONGEST_PACKET as i64 - 160);
-    assert_eq!((sender.room, sender.len, sender.count), (1, 160, 4));
+    assert_eq!(
+        (sender.room, sender.len, sender.count),
+        (1, 160, Sender::LEVEL)
+    );
     sender.settings.rate = usize::MAX;
     let before = sender;
     let refused = sender_clock(&mut sender, &mut texts, &mut log, 10_001, &mut space);

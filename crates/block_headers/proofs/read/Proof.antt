@@ -33,7 +33,7 @@ returns-2 c =
     ∙ ap (seenBefore (a .end)) (sym (outside (a .plain) (a .t140) (now (a .packet)) (a .from) (a .end) (c .before .before .if1 .left) (c .before .if2 .taken)))
 
 returns-3 : tie.Need-returns-3
-unfolding headersOf
+unfolding headersOf level
 returns-3 c =
     let a = c .before .before .before .before .args in
     let p = now (a .packet) in

@@ -27,6 +27,7 @@ abbrev μ-loop : tie.MeasureT-loop
 μ-loop t140 packet from end array₀ count₀ at₀ array count at = level - count
 
 loop-holds : tie.Need-loop-holds Inv-loop μ-loop
+unfolding level
 loop-holds c = (search needs, search needs, refl, refl, refl)
 
 refused-requires : tie.Need-refused-requires Inv-loop μ-loop
@@ -74,6 +75,7 @@ refused-requires-3 : tie.Need-refused-requires-3 Inv-loop μ-loop
 refused-requires-3 c κs = search needs
 
 returns-4 : tie.Need-returns-4 Inv-loop μ-loop
+unfolding level
 returns-4 c =
     let a = c .before .before .before .before .before .before .before .args in
     let l = c .before .before .before .before .before .loop in
@@ -92,6 +94,7 @@ refused-requires-4 : tie.Need-refused-requires-4 Inv-loop μ-loop
 refused-requires-4 c κs = search needs
 
 returns-5 : tie.Need-returns-5 Inv-loop μ-loop
+unfolding level
 returns-5 c =
     let a = c .before .before .before .before .before .before .before .before .args in
     let l = c .before .before .before .before .before .before .loop in
@@ -107,6 +110,7 @@ refused-requires-5 : tie.Need-refused-requires-5 Inv-loop μ-loop
 refused-requires-5 c κs = search needs
 
 returns-6 : tie.Need-returns-6 Inv-loop μ-loop
+unfolding level
 returns-6 c =
     let a = c .before .before .before .before .before .before .before .before .before .args in
     let l = c .before .before .before .before .before .before .before .loop in
@@ -122,21 +126,26 @@ head-at-requires : tie.Need-head-at-requires Inv-loop μ-loop
 head-at-requires c κs = search needs
 
 mul-heads : tie.Need-mul-heads Inv-loop μ-loop
+unfolding level
 mul-heads c = search needs
 
 array-set-from-heads : tie.Need-array-set-from-heads Inv-loop μ-loop
+unfolding level
 array-set-from-heads c = search needs
 
 add-count : tie.Need-add-count Inv-loop μ-loop
+unfolding level
 add-count c = search needs
 
 add-at : tie.Need-add-at Inv-loop μ-loop
 add-at c = search needs
 
 loop-less : tie.Need-loop-less Inv-loop μ-loop
+unfolding level
 loop-less c = search needs
 
 loop-again : tie.Need-loop-again Inv-loop μ-loop
+unfolding level
 loop-again c =
     let a = c .before .before .before .before .before .before .before .before .before .args in
     let l = c .before .before .before .before .before .before .before .loop in

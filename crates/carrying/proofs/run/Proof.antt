@@ -22,6 +22,7 @@ abbrev μ-loop : tie.MeasureT-loop
 μ-loop most clock lens ats count₀ text₀ count text = level - count
 
 long : (c : tie.Start Inv-loop μ-loop) → (length (c .args .t1) ≡ level) × (length (c .args .t2) ≡ level)
+unfolding level
 long c = (search needs, search needs)
 
 loop-holds : tie.Need-loop-holds Inv-loop μ-loop
@@ -70,9 +71,11 @@ add-count : tie.Need-add-count Inv-loop μ-loop
 add-count c = omega arith
 
 loop-less : tie.Need-loop-less Inv-loop μ-loop
+unfolding level
 loop-less c = omega arith
 
 loop-again : tie.Need-loop-again Inv-loop μ-loop
+unfolding level
 loop-again c =
     let st = c .before .before .before .before .before .before in
     let a = st .args in

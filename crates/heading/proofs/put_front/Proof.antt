@@ -13,6 +13,7 @@ use Rattle.heading.proofs.put_front.Tie as tie
 
 -- the length is the definition's
 size-is : (c : tie.After-size) → let a = c .before .before .before .args in c .size .result ≡ length (frontOf (a .front) (a .count))
+unfolding level
 size-is c =
     let a = c .before .before .before .args in
     c .size .ensures ∙ ap (frontSize (a .front .level)) (c .before .least .ensures) ∙ sym (front-size (a .front) (min (a .count) level))
@@ -24,6 +25,7 @@ least-requires : tie.Need-least-requires
 least-requires c κs = search needs
 
 size-requires : tie.Need-size-requires
+unfolding level
 size-requires c κs = search needs
 
 returns : tie.Need-returns
@@ -32,12 +34,14 @@ returns c =
     (size-is (c .before), placed-not (frontOf (a .front) (a .count)) (now (a .to)) (subst (λ (n : ℕ). length (now (a .to)) < n) (size-is (c .before)) (c .if1 .taken)))
 
 put-all-requires : tie.Need-put-all-requires
+unfolding level
 put-all-requires c κs = (omega (arith, c .before .before .before .least .ensures), rw (c .before .before .before .least .ensures) (fits (c .before)))
 
 same-length : tie.Need-same-length
 same-length c = search needs
 
 returns-2 : tie.Need-returns-2
+unfolding level
 returns-2 c =
     let e = c .before .before .before .before in
     let a = e .before .before .before .before .args in (

@@ -57,6 +57,7 @@ whole c =
     begun-store (a .t140 ∷ []) (headersFor (a .t140) (a .clock) (a .t4) (a .t5) (a .count)) (now (a .to)) (l .to) (l .at) (left c) (c .before .before .before .pre .2) (a .t140) refl
 
 loop-holds : tie.Need-loop-holds Inv-loop μ-loop
+unfolding level
 loop-holds c =
     let a = c .before .args in
     (omega arith, turn-none (headAt (a .t140) (a .clock) (a .t4) (a .t5)) (a .t140 ∷ []) (a .count) (now (a .to)) level (c .before .pre .1))
@@ -65,15 +66,19 @@ sub-i : tie.Need-sub-i Inv-loop μ-loop
 sub-i c = c .loop-test .taken
 
 mul-sent : tie.Need-mul-sent Inv-loop μ-loop
+unfolding level
 mul-sent c = search needs
 
 array-read-sent : tie.Need-array-read-sent Inv-loop μ-loop
+unfolding level
 array-read-sent c = search needs
 
 mul-len : tie.Need-mul-len Inv-loop μ-loop
+unfolding level
 mul-len c = search needs
 
 array-read-len : tie.Need-array-read-len Inv-loop μ-loop
+unfolding level
 array-read-len c = search needs
 
 sub-put-head : tie.Need-sub-put-head Inv-loop μ-loop

@@ -1,4 +1,5 @@
 use borrow.Author.Needs.{needs}
+use Rattle.packet_spec.specs.Limits.{level}
 use Rattle.base.proofs.Cases.{cases}
 use Rattle.heading.proofs.size.Statement.{statement}
 use Rattle.heading.proofs.size.Tie as tie
@@ -7,12 +8,15 @@ returns : tie.Need-returns
 returns c = search cases
 
 mul-result : tie.Need-mul-result
+unfolding level
 mul-result c = search needs
 
 add-result : tie.Need-add-result
+unfolding level
 add-result c = search needs
 
 add-result-2 : tie.Need-add-result-2
+unfolding level
 add-result-2 c = search needs
 
 returns-2 : tie.Need-returns-2

@@ -3,6 +3,7 @@ use mathlib.Core.Path.{_∙_, ap}
 use borrow.Author.Tests.{lt-ltb, le-ltb}
 use borrow.Author.Needs.{needs}
 use denote.Ref.{now}
+use Rattle.packet_spec.specs.Limits.{level}
 use Rattle.base.specs.Arrays.{part}
 use Rattle.packet.specs.Places.{startOf}
 use Rattle.packet.proofs.block.Statement.{statement}
@@ -12,6 +13,7 @@ slice-aggregate-result : tie.Need-slice-aggregate-result
 slice-aggregate-result c = search needs
 
 returns : tie.Need-returns
+unfolding level
 returns c = rw (lt-ltb _ _ (c .before .if1 .taken))
 
 start-of-requires : tie.Need-start-of-requires
@@ -27,6 +29,7 @@ part-requires : tie.Need-part-requires
 part-requires c κs = search needs
 
 returns-2 : tie.Need-returns-2
+unfolding level
 returns-2 c =
     let a = c .before .before .before .before .before .args in
     let p = now (a .bytes) in

@@ -18,8 +18,9 @@ returns : tie.Need-returns
 returns c = search needs
 
 returns-2 : tie.Need-returns-2
+unfolding level
 returns-2 c =
-    let four : length (c .before .args .t1) ≡ level = omega arith in
+    let long : length (c .before .args .t1) ≡ level = omega arith in
     sym (ap (λ (o : Older). o .at) (List·getD-eq-default (c .before .args .t1) none (omega arith)))
 
 pub older-start-spec : {M : Type 1} → statement M

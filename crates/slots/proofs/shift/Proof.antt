@@ -18,16 +18,20 @@ abbrev μ-loop : tie.MeasureT-loop
 μ-loop len clock lens ats sizes₀ times₀ i₀ sizes times i = level - i
 
 loop-holds : tie.Need-loop-holds Inv-loop μ-loop
+unfolding level
 loop-holds c = (omega arith, refl, refl)
 
 long-lens : (c : tie.Start Inv-loop μ-loop) → length (c .args .t1) ≡ level
+unfolding level
 long-lens c = search needs
 
 long-ats : (c : tie.Start Inv-loop μ-loop) → length (c .args .t2) ≡ level
+unfolding level
 long-ats c = search needs
 
 -- the last before the newest
 last : (x : ℕ) (l kept : List ℕ) (i : ℕ) → length l ≡ level → i ≡ level - 1 → kept ≡ filled x level (x ∷ take i l) → kept ≡ take level (x ∷ l)
+unfolding level
 last x l kept i n e f =
     f ∙ ap (λ (k : ℕ). filled x level (x ∷ take k l)) e
     ∙ filled-whole x level (x ∷ take (level - 1) l) (ap suc (length-take-le (level - 1) l (omega arith)))
@@ -63,9 +67,11 @@ array-write-times : tie.Need-array-write-times Inv-loop μ-loop
 array-write-times c = search needs
 
 loop-less : tie.Need-loop-less Inv-loop μ-loop
+unfolding level
 loop-less c = search needs
 
 loop-again : tie.Need-loop-again Inv-loop μ-loop
+unfolding level
 loop-again c =
     let a = c .before .before .args in
     let l = c .before .loop in (
@@ -75,6 +81,7 @@ loop-again c =
     )
 
 returns : tie.Need-returns Inv-loop μ-loop
+unfolding level
 returns c =
     let a = c .before .before .args in
     let l = c .before .loop in

@@ -24,6 +24,7 @@ fitted-long : (lens : List ℕ) → length (fitted lens) ≡ length lens
 fitted-long lens = length-map lens (λ n. min n roomSize)
 
 long : (c : tie.Start Inv-loop μ-loop) → length (c .args .lens) ≡ level
+unfolding level
 long c = search needs
 
 loop-holds : tie.Need-loop-holds Inv-loop μ-loop

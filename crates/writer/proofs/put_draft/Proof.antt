@@ -27,6 +27,7 @@ abbrev start : tie.After-run → tie.Start
 start c = c .before .before .before .before .before .before .before
 
 lens-long : (c : tie.Start) → length (c .args .draft .lens) ≡ level
+unfolding level
 lens-long c = search needs
 
 -- the draft with lengths that fit
@@ -39,6 +40,7 @@ fit-long c =
     ap length (c .before .before .before .fitting .ensures) ∙ length-map lens (λ n. min n roomSize) ∙ lens-long (start c)
 
 ats-long : (c : tie.After-run) → length (fit c .ats) ≡ level
+unfolding level
 ats-long c = search needs
 
 -- it means the same packet

@@ -1,6 +1,6 @@
 //! What the library's sender must be, by an independent one.
 
-use super::held::{Block, Meaning, LEVEL};
+use super::held::{Block, Meaning, KEPT};
 use independent::sender::{Sender, Settings};
 use stewpigeon::lent::{self, Pace};
 
@@ -48,8 +48,8 @@ fn pace(sender: &Sender, characters: usize) -> Pace {
 /// The record of an independent sender in this slot that has sent so many
 /// characters: zeros past its count.
 pub fn record(sender: &Sender, room: usize, characters: usize) -> lent::Sender {
-    let mut lens = [0; LEVEL];
-    let mut ats = [0; LEVEL];
+    let mut lens = [0; KEPT];
+    let mut ats = [0; KEPT];
     let mut count = 0;
     for block in sender.blocks() {
         lens[count] = block.len();

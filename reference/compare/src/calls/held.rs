@@ -7,9 +7,9 @@ use stewpigeon::lent::{Progress, Sender, Settings, Texts};
 /// The longest text in a slot.
 pub const ROOM: usize = 160;
 /// The most blocks that are kept.
-pub const LEVEL: usize = 4;
+pub const KEPT: usize = stewpigeon::Sender::LEVEL;
 /// One for the text that waits, and one for each block.
-pub const SLOTS: usize = LEVEL + 1;
+pub const SLOTS: usize = KEPT + 1;
 
 /// The slot in which text waits.
 pub fn room(sender: &Sender) -> usize {
@@ -60,8 +60,10 @@ impl Held {
     /// next slot.
     pub fn sent(&self, clock: u64, taken: usize, characters: usize) -> Held {
         let before = &self.record;
-        let [a, b, c, _] = before.lens;
-        let [d, e, f, _] = before.ats;
+        let (mut lens, mut ats) = (before.lens, before.ats);
+        lens.rotate_right(1);
+        ats.rotate_right(1);
+        (lens[0], ats[0]) = (taken, clock);
         let (room, waits) = (room(before), before.len.min(ROOM));
         let next = (room + 1) % SLOTS;
         let by_text = |some, none| if taken > 0 { some } else { none };
@@ -72,9 +74,9 @@ impl Held {
             len: waits - taken,
             characters: before.characters.min(ROOM) - characters,
             since: by_text(clock, before.since),
-            lens: [taken, a, b, c],
-            ats: [clock, d, e, f],
-            count: before.count.min(LEVEL - 1) + 1,
+            lens,
+            ats,
+            count: before.count.min(KEPT - 1) + 1,
             pace: behind(before, characters),
             progress: Progress {
                 sent: 1,
@@ -136,7 +138,7 @@ impl Meaning {
             waiting: text(room, record.len),
             characters: record.characters.min(ROOM),
             since: record.since,
-            blocks: (0..record.count.min(LEVEL)).map(block).collect(),
+            blocks: (0..record.count.min(KEPT)).map(block).collect(),
             progress: record.progress,
         }
     }

@@ -1,8 +1,10 @@
 //! Whole lines: packets of a sender lost, copied and delayed on their way to
 //! the library's receivers, and their records held against demand 3.
 
+use std::collections::BTreeSet;
 use std::iter::repeat_n;
 
+use super::each::Each;
 use super::space::Space;
 use super::tally::{Call, Tally};
 use super::{holding, receivers, senders};
@@ -10,7 +12,7 @@ use crate::random::Random;
 use independent::channel::{self, Delivery, Line};
 use independent::record::{expected, in_window, Entry, Sent, AHEAD, BEHIND};
 use independent::sender::Settings;
-use independent::{maker, read};
+use independent::{maker, read, LEVEL};
 use stewpigeon::lent::Step;
 
 /// Adds what the library's step gives: its loss in marks, then its blocks,
@@ -28,8 +30,8 @@ pub fn add(
     }
     let read = read(None, settings.t140, settings.red, packet)
         .map_err(|number| format!("an accepted packet is refused {number}"))?;
-    let given = &read.older()[read.older().len() + 1 - step.given..];
-    let mut blocks: Vec<&[u8]> = given.iter().map(|older| read.block(older)).collect();
+    let given = read.older().skip(read.older().len() + 1 - step.given);
+    let mut blocks: Vec<&[u8]> = given.map(|older| read.block(&older)).collect();
     blocks.push(read.primary());
     if blocks.concat() != packet[step.from..step.to] {
         return Err("the text given is not that of the blocks given".to_string());
@@ -106,6 +108,9 @@ fn receive(
         if let Some(newest) = newest {
             tally.meet("packets of lines 2,999 ahead", k == newest + AHEAD);
             tally.meet("packets of lines 99 behind", k + BEHIND == newest);
+            if k > newest {
+                tally.each(Each::LostInLines, k - newest - 1);
+            }
         }
         newest = newest.max(Some(k));
         accepted.push(k);
@@ -178,7 +183,7 @@ type Make = fn(&mut Random, &Settings, &mut Tally) -> Result<Line, String>;
 fn lines(random: &mut Random, calls: usize, tally: &mut Tally, make: Make) -> Result<(), String> {
     let start = tally.calls(Call::Step);
     while tally.calls(Call::Step) < start + calls {
-        let level = random.below(5);
+        let level = random.within(0, LEVEL);
         let settings = channel::settings(random, level);
         let line = make(random, &settings, tally)?;
         transmit(random, &settings, &line, channel::deliveries, tally)?;
@@ -210,7 +215,7 @@ const LONG: u64 = 140_000;
 /// the window's ends, and with losses, copies and delays all along.
 pub fn long(random: &mut Random, calls: usize, tally: &mut Tally) -> Result<(), String> {
     let packets = LONG.min(2 * calls as u64);
-    for level in 0..=4 {
+    for level in BTreeSet::from([0, 1, LEVEL / 2, LEVEL]) {
         let (settings, calls) = channel::lettered(random, level, packets);
         let line = send(random, &settings, &calls, Space::enough, tally)?;
         for _ in 0..10 {

@@ -10,6 +10,7 @@ use crate::random::Random;
 use independent::channel::{self, settings};
 use independent::receiver::write_marks;
 use independent::sender::Settings;
+use independent::LEVEL;
 use stewpigeon::lent;
 
 /// Every pair of bytes as payload types, to receivers of both kinds.
@@ -32,12 +33,15 @@ pub fn receiver_openings(
 
 /// Settings with one to three parts at or past their bounds.
 fn bad_settings(random: &mut Random) -> Settings {
-    let level = random.below(5);
+    let level = random.within(0, LEVEL);
     let mut bad = settings(random, level);
     for _ in 0..random.within(1, 3) {
         let any = random.number();
         match random.below(5) {
-            0 => bad.level = random.pick(&[4, 5, 6, 255, 256, 1 << 32, any as usize, usize::MAX]),
+            0 => {
+                let far = random.pick(&[255, 256, 1 << 32, any as usize, usize::MAX]);
+                bad.level = random.pick(&[LEVEL, LEVEL + 1, LEVEL + 1, LEVEL + 2, far]);
+            }
             1 => bad.buffering = random.pick(&[0, 1, 500, 501, 65_836, any, u64::MAX]),
             2 => bad.rate = random.pick(&[0, 1, 100, 101, 256, 257, 1 << 32, any as usize]),
             3 => bad.t140 = random.pick(&[0, 95, 96, 127, 128, 226, 255, any as u8]),
@@ -49,7 +53,7 @@ fn bad_settings(random: &mut Random) -> Settings {
 
 pub fn sender_openings(random: &mut Random, calls: usize, tally: &mut Tally) -> Result<(), String> {
     while tally.calls(Call::SenderOpen) < calls {
-        let level = random.below(5);
+        let level = random.within(0, LEVEL);
         let settings = match random.once_in(2) {
             true => settings(random, level),
             false => bad_settings(random),
@@ -115,7 +119,7 @@ pub fn payload_types(random: &mut Random) -> (u8, u8) {
 /// 65,535.
 pub fn number_near(random: &mut Random, expected: u16) -> u16 {
     let any = random.number() as u16;
-    let near = random.below(8) as u16;
+    let near = random.within(0, LEVEL + 3) as u16;
     let ahead = random.within(2_996, 3_001) as u16;
     let behind = (65_536 - random.within(97, 104)) as u16;
     let far = random.pick(&[32_766, 32_767, 32_768, 32_769, 65_534, 65_535]);
@@ -137,10 +141,14 @@ fn sequence(random: &mut Random, pair: &receivers::Pair) -> Option<u16> {
 
 /// A packet of this number.
 pub fn packet(random: &mut Random, source: u32, sequence: u16) -> Vec<u8> {
-    let mut plan = match random.below(8) {
-        0 => Plan::t140(random),
-        1 => Plan::good(random),
-        few => Plan::small_red(random, few % 5),
+    let mut plan = match random.below(16) {
+        0 | 1 => Plan::t140(random),
+        2 | 3 => Plan::good(random),
+        4 => Plan::small_red(random, LEVEL + 1),
+        _ => {
+            let count = random.within(0, LEVEL);
+            Plan::small_red(random, count)
+        }
     };
     plan.sequence = sequence;
     plan.source = source;
@@ -205,7 +213,7 @@ pub fn sender_calls(random: &mut Random, calls: usize, tally: &mut Tally) -> Res
     let start = tally.calls(Call::Offer).max(tally.calls(Call::Clock));
     let met = |tally: &Tally| tally.calls(Call::Offer).min(tally.calls(Call::Clock));
     while met(tally) < start + calls {
-        let level = random.below(5);
+        let level = random.within(0, LEVEL);
         let mut settings = settings(random, level);
         if random.once_in(50) {
             settings = bad_settings(random);

@@ -3,6 +3,7 @@
 
 pub mod answers;
 mod any_state;
+pub mod each;
 mod expected;
 mod held;
 mod holding;
@@ -24,6 +25,7 @@ pub use expected::library_settings;
 
 use std::fmt::Debug;
 
+use crate::level;
 use crate::random::Random;
 use tally::Tally;
 
@@ -55,7 +57,9 @@ fn same<T: PartialEq + Debug>(answer: T, due: T) -> Result<(), String> {
 /// Compares on the named cases and on at least `calls` calls of each kind, or
 /// says where the first difference is.
 pub fn run(seed: u64, calls: usize) -> Result<Tally, String> {
+    level::check()?;
     let mut tally = Tally::default();
+    tally.leaves_out("steps that give some of several older blocks", 2);
     let mut random = Random::new(seed);
     named::run(&mut random, &mut tally)?;
     for (place, (name, part)) in PARTS.iter().enumerate() {

@@ -9,7 +9,7 @@ use super::space::Space;
 use super::tally::{Call, Tally};
 use crate::random::Random;
 use independent::sender::Settings;
-use independent::{channel, read};
+use independent::{channel, read, LEVEL};
 
 const RATES: [usize; 4] = [1, 2, 30, 100];
 const BUFFERING: [u64; 2] = [1, 300];
@@ -203,7 +203,7 @@ pub fn run(random: &mut Random, calls: usize, tally: &mut Tally) -> Result<(), S
     while made(tally) < start + calls {
         for (rate, held) in RATES.into_iter().zip(&mut held) {
             for buffering in BUFFERING {
-                let level = random.below(5);
+                let level = random.within(0, LEVEL);
                 let settings = Settings {
                     buffering,
                     rate,

@@ -48,13 +48,13 @@ fn give(receiver: &mut Receiver, course: u8, d: usize, wanted: usize, packet: &P
     receiver.has_source = 1;
     receiver.source = packet.source;
     receiver.expected = packet.sequence.wrapping_add(1);
-    let older = packet.older();
-    let first = older[older.len() - wanted..].first();
+    let older = packet.older().len();
+    let first = packet.older().nth(older - wanted);
     Step {
         course,
-        loss: d.saturating_sub(older.len()) as u16,
+        loss: d.saturating_sub(older) as u16,
         distance: d as i16,
-        older: older.len(),
+        older,
         given: wanted + 1,
         from: first.map_or(packet.start, |first| first.start).into(),
         to: packet.end.into(),

@@ -1,12 +1,14 @@
 //! A receiver of the library beside an independent one.
 
 use super::answers::{self, compared, record, Stepped};
+use super::each::Each;
 use super::library;
 use super::tally::{Answer, Call, Tally};
 use super::trail::Trail;
 use crate::check::hex;
 use crate::random::Random;
 use independent::receiver::Receiver;
+use independent::LEVEL;
 use stewpigeon::lent::{self, Step};
 
 pub struct Pair {
@@ -98,11 +100,19 @@ fn meet(answer: &Stepped, tally: &mut Tally) {
     tally.meet("steps at distance -101", step.distance == -101);
     tally.meet("steps at distance -100", step.distance == -100);
     tally.meet("steps at distance -1", step.distance == -1);
-    tally.meet("steps that give no older block of several", {
-        step.older > 1 && step.given == 1
-    });
-    tally.meet("steps that give some older blocks", {
-        step.given > 1 && step.given <= step.older
-    });
-    tally.meet("steps that give all of four older blocks", step.given == 5);
+    if LEVEL > 1 {
+        tally.meet("steps that give no older block of several", {
+            step.older > 1 && step.given == 1
+        });
+        tally.meet("steps that give some older blocks", {
+            step.given > 1 && step.given <= step.older
+        });
+    }
+    if step.given > 0 {
+        tally.each(Each::Taken, step.older);
+        tally.each(Each::Given, step.given - 1);
+    }
+    if step.given > 0 && step.older == LEVEL {
+        tally.each(Each::Lost, step.distance as usize);
+    }
 }

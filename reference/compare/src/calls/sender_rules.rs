@@ -4,8 +4,9 @@
 
 use std::iter::repeat_n;
 
-use super::held::{Block, Meaning, LEVEL, ROOM};
+use super::held::{Block, Meaning, ROOM};
 use super::receiver_rules::types_bad;
+use independent::LEVEL;
 use stewpigeon::lent;
 
 const OLDEST: u64 = 16_383;

@@ -1,5 +1,7 @@
 //! A sender of the library beside an independent one.
 
+mod met;
+
 use std::iter::repeat_n;
 
 use super::expected::{library_settings, meaning, record};
@@ -11,7 +13,7 @@ use super::{any_state, library};
 use crate::check::hex;
 use crate::patterns::Lent;
 use crate::random::Random;
-use independent::sender::{Clocked, Sender, Settings};
+use independent::sender::{Clocked, Sender, Settings, LONGEST_PACKET};
 use stewpigeon::lent::Texts;
 
 pub struct Pair {
@@ -56,6 +58,7 @@ impl Pair {
             ));
         }
         tally.add(Call::SenderOpen, Answer::opened(number));
+        met::opening(settings, number, tally);
         // What lies in the texts and is no text of the sender does not count,
         // and stays.
         if !refused && random.once_in(2) {
@@ -162,7 +165,7 @@ impl Pair {
         let due = self.independent.length_due(clock);
         let length = match due {
             Some(length) => space.length(random, length),
-            None => random.pick(&[0, 1, 12, 59, 900]),
+            None => random.pick(&[0, 1, 12, 59, LONGEST_PACKET]),
         };
         let mut ours = Lent::any(random, length);
         let mut theirs = ours.clone();
@@ -186,9 +189,16 @@ impl Pair {
                 tally.meet(space.name(), due.is_some());
                 self.met(clock, answer, tally);
                 return Ok(match clocked {
-                    Clocked::Refused(number) => Err(number),
+                    Clocked::Refused(number) => {
+                        met::short(length, due, tally);
+                        Err(number)
+                    }
                     Clocked::Quiet => Ok(None),
-                    Clocked::Sent(length) => Ok(Some(ours.bytes()[..length].to_vec())),
+                    Clocked::Sent(length) => {
+                        let packet = ours.bytes()[..length].to_vec();
+                        met::packet(self.independent.settings(), &packet, tally);
+                        Ok(Some(packet))
+                    }
                 });
             }
         };

@@ -5,8 +5,9 @@ use std::collections::{BTreeMap, BTreeSet};
 use std::fmt::{self, Display, Formatter};
 use std::ops::RangeInclusive;
 
+use super::each::{Each, Met};
 use crate::say;
-use independent::refusal;
+use independent::{refusal, LEVEL};
 
 #[derive(Clone, Copy, Debug, PartialEq, Eq, PartialOrd, Ord)]
 pub enum Call {
@@ -160,13 +161,16 @@ impl Display for Answer {
 }
 
 /// How often each answer was given to each call, how often something that
-/// must be met was, and which values of flags were.
+/// must be met was, with which numbers, and which values of flags were.
 #[derive(Default)]
 pub struct Tally {
     answers: BTreeMap<(Call, Answer), usize>,
     met: BTreeMap<Cow<'static, str>, usize>,
+    each: Met,
     /// By call, flag and outcome.
     flags: BTreeMap<(Call, &'static str, &'static str), BTreeSet<u8>>,
+    /// What needs a higher level.
+    left_out: Vec<&'static str>,
 }
 
 impl Tally {
@@ -177,6 +181,20 @@ impl Tally {
     /// One more of what must be met, where `times` is not 0.
     pub fn meet(&mut self, what: impl Into<Cow<'static, str>>, times: impl Into<usize>) {
         *self.met.entry(what.into()).or_default() += times.into();
+    }
+
+    /// One more of what must be met with each number, with this one.
+    pub fn each(&mut self, what: Each, number: usize) {
+        self.each.add(what, number);
+    }
+
+    /// Whether a case is left out because it needs a higher level.
+    pub fn leaves_out(&mut self, case: &'static str, level: usize) -> bool {
+        let low = LEVEL < level;
+        if low {
+            self.left_out.push(case);
+        }
+        low
     }
 
     /// A call on a record with this value in this flag was answered so.
@@ -201,6 +219,10 @@ impl Tally {
             let total = self.calls(call);
             say!("{total:>9}  {}: {}", call.name(), answers.join(" "));
         }
+        for case in &self.left_out {
+            say!(" left out  {case}");
+        }
+        self.each.print();
         say!("\n    times  met in these calls");
         for (what, count) in &self.met {
             say!("{count:>9}  {what}");
@@ -245,6 +267,7 @@ impl Tally {
         }
         let never = self.met.iter().filter(|(_, count)| **count == 0);
         missing.extend(never.map(|(what, _)| format!("never met: {what}")));
+        missing.extend(self.each.missing());
         missing.extend(self.missing_flags());
         missing
     }

@@ -68,7 +68,7 @@ fn breaks() -> Vec<Case> {
         case("break-2999", at(3_005), "AB", one),
         case("break-101-back", at(65_440), "AB", one),
         case("break-32767-and-32768", at(32_773), "AB", one),
-        case("break-with-repeats", after_a(&with_repeats), "AwxB", one),
+        case("break-with-repeats", after_a(&with_repeats), "AwxB", one).needs(3),
         case("break-over-wrap", over_wrap.end(), "AB", one),
         case(
             "break-and-on",

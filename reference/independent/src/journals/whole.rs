@@ -1,6 +1,6 @@
 //! Journals that are not broken.
 
-use super::{case, header, marks, open, red, t140, Case};
+use super::{case, header, marks, open, red, t140, two, Case, ONE, TWO};
 use crate::recorder::Recorder;
 
 pub fn cases() -> Vec<Case> {
@@ -18,8 +18,6 @@ pub fn cases() -> Vec<Case> {
 }
 
 const NOTHING: &str = "0 late 0 lost 0 refused 0";
-const ONE: &str = "1 late 0 lost 0 refused 0";
-const TWO: &str = "2 late 0 lost 0 refused 0";
 const ONE_REFUSED: &str = "0 late 0 lost 0 refused 1";
 
 fn openings() -> Vec<Case> {
@@ -100,39 +98,20 @@ fn times() -> Vec<Case> {
 }
 
 fn losses() -> Vec<Case> {
-    let two = |first: Vec<u8>, second: Vec<u8>| open().packet(&first).packet(&second).end();
-    let (first, a) = (t140(5, "-"), t140(5, "A"));
-    let none = two(first.clone(), red(6, &["x", "-"], "B"));
-    let covered = two(first.clone(), red(8, &["x", "y"], "B"));
-    let more = two(first.clone(), red(8, &["w", "-", "x", "y"], "B"));
-    let partly = two(first.clone(), red(9, &["x", "y"], "B"));
-    let empty = two(first.clone(), red(8, &["", ""], ""));
+    let a = t140(5, "A");
     let wrap = two(t140(65_534, "-"), t140(1, "B"));
-    let wrap_covered = two(t140(65_534, "-"), red(0, &["x"], "B"));
     let most = two(a.clone(), t140(3_004, "B"));
     let most_red = two(a.clone(), red(3_004, &["x"], "B"));
     let twice = open().packet(&a).packet(&t140(3_004, "B"));
     let twice = twice.packet(&t140(6_003, "C")).end();
-    let older = open().packet(&red(5, &["a", "", "b", "c"], "d")).end();
     let spelled = two(t140(5, "\u{fffd}\n"), t140(7, "\u{fffd}"));
     vec![
-        case("repeats-known", none, "-B", TWO),
-        case("repeats-fill-loss", covered, "-xyB", TWO),
-        case("repeats-more-than-loss", more, "-xyB", TWO),
-        case(
-            "repeats-fewer-than-loss",
-            partly,
-            "-\u{fffd}xyB",
-            "2 late 0 lost 1 refused 0",
-        ),
-        case("repeats-empty", empty, "-", TWO),
         case(
             "loss-over-wrap",
             wrap,
             "-\u{fffd}\u{fffd}B",
             "2 late 0 lost 2 refused 0",
         ),
-        case("repeat-over-wrap", wrap_covered, "-xB", TWO),
         case(
             "loss-2998",
             most,
@@ -151,7 +130,6 @@ fn losses() -> Vec<Case> {
             ["A", &marks(2_998), "B", &marks(2_998), "C"].concat(),
             "3 late 0 lost 5996 refused 0",
         ),
-        case("first-packet-all-blocks", older, "abcd", ONE),
         case(
             "mark-in-text",
             spelled,
@@ -218,7 +196,8 @@ fn ages() -> Vec<Case> {
             between(&equal, &red(7, &["A", "B"], "C")).end(),
             "ABC",
             "2 late 0 lost 0 refused 1",
-        ),
+        )
+        .needs(2),
         case(
             "ages-zero",
             between(&zero, &t140(7, "C")).end(),
@@ -230,7 +209,8 @@ fn ages() -> Vec<Case> {
             first(&red(7, &["A", "B"], "C")),
             "ABC",
             "1 late 0 lost 0 refused 1",
-        ),
+        )
+        .needs(2),
         case(
             "ages-equal-first-lost",
             first(&t140(7, "C")),

@@ -1,6 +1,7 @@
 //! Cases of the older blocks' time offsets: 22, after 20 and before 21.
 
-use super::{behind, case, older, red, Case};
+use super::{behind, case, older, red, Case, Outcome};
+use crate::LEVEL;
 
 /// The headers of older blocks of one byte, then what follows.
 fn headers(offsets: &[u16], rest: &[u8]) -> Vec<u8> {
@@ -14,9 +15,9 @@ fn headers(offsets: &[u16], rest: &[u8]) -> Vec<u8> {
 }
 
 /// Older blocks of these offsets, each an `a`, and the primary `b`.
-fn aged(offsets: &[u16]) -> Vec<u8> {
+fn aged(name: &'static str, offsets: &[u16], result: Outcome) -> Case {
     let blocks = [&[0x62], &b"a".repeat(offsets.len())[..], b"b"].concat();
-    headers(offsets, &blocks)
+    case(name, headers(offsets, &blocks), result).needs(offsets.len())
 }
 
 pub fn cases() -> Vec<Case> {
@@ -27,77 +28,58 @@ pub fn cases() -> Vec<Case> {
 }
 
 fn accepted() -> Vec<Case> {
+    let good = |name, offsets: &[u16]| {
+        let start = 13 + 4 * offsets.len() as u16;
+        let blocks = offsets.iter().zip(start..);
+        let blocks = blocks.map(|(offset, start)| older(*offset, start, 1));
+        let primary = start + offsets.len() as u16;
+        let holds = behind(blocks.collect(), primary, primary + 1);
+        aged(name, offsets, Ok(holds))
+    };
+    let down_to_1: Vec<u16> = (1..=LEVEL as u16).rev().collect();
+    let from_16_383: Vec<u16> = (0..LEVEL as u16).map(|older| 16_383 - older).collect();
     vec![
-        case(
-            "offset 1",
-            aged(&[1]),
-            Ok(behind(const { &[older(1, 17, 1)] }, 18, 19)),
-        ),
-        case(
-            "offset 16,383",
-            aged(&[16_383]),
-            Ok(behind(const { &[older(16_383, 17, 1)] }, 18, 19)),
-        ),
-        case(
-            "offsets 600, 300",
-            aged(&[600, 300]),
-            Ok(behind(
-                const { &[older(600, 21, 1), older(300, 22, 1)] },
-                23,
-                24,
-            )),
-        ),
-        case(
-            "offsets 4, 3, 2, 1",
-            aged(&[4, 3, 2, 1]),
-            Ok(behind(
-                const {
-                    &[
-                        older(4, 29, 1),
-                        older(3, 30, 1),
-                        older(2, 31, 1),
-                        older(1, 32, 1),
-                    ]
-                },
-                33,
-                34,
-            )),
-        ),
+        good("offset 1", &[1]),
+        good("offset 16,383", &[16_383]),
+        good("offsets 600, 300", &[600, 300]),
+        good("as many offsets as may be, down to 1", &down_to_1),
+        good("as many offsets as may be, from 16,383", &from_16_383),
     ]
 }
 
 fn refused() -> Vec<Case> {
+    let bad = |name, offsets: &[u16]| aged(name, offsets, Err(22));
+    let down_to_0: Vec<u16> = (0..LEVEL as u16).rev().collect();
+    let mut too_low: Vec<u16> = (1..=LEVEL as u16).rev().collect();
+    too_low[0] -= 1;
     vec![
-        case("offset 0", aged(&[0]), Err(22)),
-        case("offsets 600, 0", aged(&[600, 0]), Err(22)),
-        case("offsets 300, 300", aged(&[300, 300]), Err(22)),
-        case("offsets 300, 600", aged(&[300, 600]), Err(22)),
-        case("offsets 4, 3, 3, 1", aged(&[4, 3, 3, 1]), Err(22)),
-        case("offsets 2, 3, 1", aged(&[2, 3, 1]), Err(22)),
+        bad("offset 0", &[0]),
+        bad("offsets 600, 0", &[600, 0]),
+        bad("offsets 300, 300", &[300, 300]),
+        bad("offsets 300, 600", &[300, 600]),
+        bad("offsets 2, 3, 1", &[2, 3, 1]),
+        bad("offsets 4, 3, 3, 1", &[4, 3, 3, 1]),
+        bad("as many offsets as may be, down to 0", &down_to_0),
+        bad("as many offsets as may be, the first too low", &too_low),
     ]
 }
 
-/// Equal offsets and another fault.
+/// Impossible offsets and another fault.
 fn order() -> Vec<Case> {
-    let equal = |rest: &[u8]| headers(&[300, 300], rest);
+    let equal = |name, rest: &[u8], number| {
+        let packet = headers(&[300, 300], rest);
+        case(name, packet, Err(number)).needs(2)
+    };
     vec![
         Case {
             expected: Some(7),
-            ..case("16 before 22", aged(&[300, 300]), Err(16))
+            ..aged("16 before 22", &[0], Err(16))
         },
-        case("17 before 22", equal(&[]), Err(17)),
-        case("18 before 22", headers(&[300; 4], &[0xe2]), Err(18)),
-        case("19 before 22", equal(&[0x63, b'a', b'a']), Err(19)),
-        case("20 before 22", equal(&[0x62, b'a']), Err(20)),
-        case(
-            "22 before 21 in an older block",
-            equal(&[0x62, b'a', 0xff]),
-            Err(22),
-        ),
-        case(
-            "22 before 21 in the primary",
-            equal(&[0x62, b'a', b'a', 0xff]),
-            Err(22),
-        ),
+        equal("17 before 22", &[], 17),
+        case("18 before 22", headers(&[300; LEVEL], &[0xe2]), Err(18)),
+        equal("19 before 22", &[0x63, b'a', b'a'], 19),
+        equal("20 before 22", &[0x62, b'a'], 20),
+        equal("22 before 21 in an older block", &[0x62, b'a', 0xff], 22),
+        equal("22 before 21 in the primary", &[0x62, b'a', b'a', 0xff], 22),
     ]
 }

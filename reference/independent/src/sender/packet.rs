@@ -2,9 +2,18 @@
 
 use std::mem::take;
 
-use super::{Draft, Sender};
-use crate::block::Block;
-use crate::HEADER;
+use super::{Draft, Sender, KEPT};
+use crate::block::{Block, ROOM};
+use crate::{HEADER, LEVEL, LONGEST};
+
+/// The longest packet written: as many older blocks as there can be, and a
+/// primary.
+pub const LONGEST_PACKET: usize = HEADER + 4 * LEVEL + 1 + KEPT * ROOM;
+
+const _: () = assert!(
+    1 <= LEVEL && LONGEST_PACKET <= LONGEST,
+    "LEVEL is from 1 to 7: every packet written must be read"
+);
 
 impl Sender {
     fn marker(&self, draft: &Draft) -> bool {

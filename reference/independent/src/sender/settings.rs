@@ -1,13 +1,13 @@
 //! What a sender is opened with.
 
-use crate::{payload_types, refusal, MOST_OLDER};
+use crate::{payload_types, refusal, LEVEL};
 
 const LONGEST_BUFFERING: u64 = 500;
 const HIGHEST_RATE: usize = 100;
 
 #[derive(Clone, Copy, Debug, PartialEq, Eq)]
 pub struct Settings {
-    /// How many older blocks each packet repeats.
+    /// How many older blocks each packet repeats, at most [`LEVEL`].
     pub level: usize,
     /// The buffering time in ms.
     pub buffering: u64,
@@ -25,7 +25,7 @@ pub struct Settings {
 impl Settings {
     #[inline]
     pub(super) fn check(&self) -> Result<(), u8> {
-        if self.level > MOST_OLDER {
+        if self.level > LEVEL {
             return Err(refusal::LEVEL);
         }
         if self.buffering == 0 || self.buffering > LONGEST_BUFFERING {

@@ -8,8 +8,9 @@ use std::path::{Path, PathBuf};
 use std::process::{self, exit};
 use std::time::Instant;
 
+use independent::LEVEL;
 use transcripts::program::{Program, PATIENCE};
-use transcripts::workload::workload;
+use transcripts::workload::{workload, OLDER};
 use transcripts::UNREAD;
 
 const USAGE: &str = "\
@@ -239,6 +240,11 @@ fn bench(options: &Options) -> Result<(), Stop> {
         work.damaged,
         work.journal.len()
     ))?;
+    if LEVEL < OLDER {
+        say(&format!(
+            "the RED ones are refused: they have {OLDER} older blocks"
+        ))?;
+    }
     let times = rounds(&programs, &scratch, &journal, options.rounds)?;
     let printed = printed(&scratch)?;
     say(&format!("both print the same {} bytes", printed.len()))?;

@@ -19,6 +19,7 @@ abbrev μ-loop : tie.MeasureT-loop
 μ-loop count heads newer₀ k₀ newer k = k
 
 few : (c : tie.Start Inv-loop μ-loop) → c .args .count ≤ length (c .args .t2)
+unfolding level
 few c = omega arith
 
 loop-holds : tie.Need-loop-holds Inv-loop μ-loop
@@ -30,9 +31,11 @@ sub-k : tie.Need-sub-k Inv-loop μ-loop
 sub-k c = search needs
 
 mul-head : tie.Need-mul-head Inv-loop μ-loop
+unfolding level
 mul-head c = search needs
 
 array-copy-out-head : tie.Need-array-copy-out-head Inv-loop μ-loop
+unfolding level
 array-copy-out-head c = search needs
 
 -- what is known of the age behind

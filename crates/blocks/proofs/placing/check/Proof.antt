@@ -41,8 +41,9 @@ Inv-blocks2 packet first count end heads outcome₀ at₀ k₀ outcome at k =
 abbrev μ-blocks2 : tie.MeasureT-blocks2
 μ-blocks2 packet first count end heads outcome₀ at₀ k₀ outcome at k = count - k
 
-four : (c : tie.Start Inv-loop μ-loop Inv-blocks2 μ-blocks2) → length (map seenHead (c .args .t4)) ≡ level
-four c = omega (arith, length-map (c .args .t4) seenHead)
+long : (c : tie.Start Inv-loop μ-loop Inv-blocks2 μ-blocks2) → length (map seenHead (c .args .t4)) ≡ level
+unfolding level
+long c = omega (arith, length-map (c .args .t4) seenHead)
 
 -- whether all blocks are text, and whether the block at hand is
 all-text : tie.At-loop Inv-loop μ-loop Inv-blocks2 μ-blocks2 → Bool
@@ -90,9 +91,11 @@ blocks2-holds : tie.Need-blocks2-holds Inv-loop μ-loop Inv-blocks2 μ-blocks2
 blocks2-holds c = search needs
 
 mul-head : tie.Need-mul-head Inv-loop μ-loop Inv-blocks2 μ-blocks2
+unfolding level
 mul-head c = search needs
 
 array-copy-out-head : tie.Need-array-copy-out-head Inv-loop μ-loop Inv-blocks2 μ-blocks2
+unfolding level
 array-copy-out-head c = search needs
 
 cast-to : tie.Need-cast-to Inv-loop μ-loop Inv-blocks2 μ-blocks2
@@ -110,7 +113,7 @@ loop-holds c =
     let l = c .before .before .blocks2 in
     let to = c .before .if1 .to in
     let all = map seenHead (a .t4) in
-    let n : length all ≡ level = four (c .before .before .before .before) in
+    let n : length all ≡ level = long (c .before .before .before .before) in
     let h : Here (now (a .packet)) all (a .count) (a .end) (l .k) (l .at) to =
     ⊎-elim
     (λ w. older-here (now (a .packet)) all (a .count) (a .end) (l .k) (l .at) to (omega arith) (l .inv .2) (w .0 .taken) (w .3 ∙ ap (λ (h : Head). l .at + h .len) (sym (getD-map seenHead (a .t4) (l .k) noHead))))

@@ -29,24 +29,30 @@ abbrev μ-loop : tie.MeasureT-loop
 μ-loop first count heads older₀ at₀ k₀ older at k = count - k
 
 loop-holds : tie.Need-loop-holds Inv-loop μ-loop
+unfolding level
 loop-holds c = (search needs, search needs, omega arith, refl)
 
 mul-head : tie.Need-mul-head Inv-loop μ-loop
+unfolding level
 mul-head c = search needs
 
 array-copy-out-head : tie.Need-array-copy-out-head Inv-loop μ-loop
+unfolding level
 array-copy-out-head c = search needs
 
 cast-len : tie.Need-cast-len Inv-loop μ-loop
 cast-len c = search needs
 
 mul-older : tie.Need-mul-older Inv-loop μ-loop
+unfolding level
 mul-older c = search needs
 
 array-set-from-older : tie.Need-array-set-from-older Inv-loop μ-loop
+unfolding level
 array-set-from-older c = search needs
 
 add-at : tie.Need-add-at Inv-loop μ-loop
+unfolding level
 add-at c = search needs
 
 add-k : tie.Need-add-k Inv-loop μ-loop
@@ -56,11 +62,12 @@ loop-less : tie.Need-loop-less Inv-loop μ-loop
 loop-less c = search needs
 
 loop-again : tie.Need-loop-again Inv-loop μ-loop
+unfolding level
 loop-again c =
     let l = c .before .before .before .loop in
     let a = c .before .before .before .before .args in
     let all = map seenHead (a .t3) in
-    let four : length all ≡ level = omega (arith, length-map (a .t3) seenHead) in
+    let long : length all ≡ level = omega (arith, length-map (a .t3) seenHead) in
     let hs = seenHeads (l .k) (a .t3) in
     let h = seenHead (getD (a .t3) (l .k) noHead) in
     let o : Older = record { offset = h .offset; at = l .at; len = h .len } in

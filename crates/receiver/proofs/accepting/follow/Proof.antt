@@ -1,7 +1,9 @@
+use native.Mathlib.Omega.{arith}
 use native.Mathlib.Numerals.{add-one}
 use mir.Syntax.{w16}
 use mir.Facts.{toZ-ofZ}
 use borrow.Author.Needs.{needs}
+use Rattle.packet_spec.proofs.Limits.{level-most}
 use Rattle.receiver.proofs.accepting.follow.Statement.{statement}
 use Rattle.receiver.proofs.accepting.follow.Tie as tie
 
@@ -12,7 +14,7 @@ start-of-requires : tie.Need-start-of-requires
 start-of-requires c κs = search needs
 
 add-given : tie.Need-add-given
-add-given c = search needs
+add-given c = omega (arith, level-most)
 
 moved-requires : tie.Need-moved-requires
 moved-requires c κs = search needs

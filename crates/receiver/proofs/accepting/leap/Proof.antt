@@ -1,10 +1,12 @@
 use Prim.Native.Nat.{ℕ}
 use mathlib.Core.Path.{_≡_, _∙_, ap, sym}
 use mathlib.Core.Bool.{true, false}
+use native.Mathlib.Omega.{arith}
 use native.Mathlib.Numerals.{add-one}
 use mir.Syntax.{w16}
 use mir.Facts.{toZ-ofZ}
 use borrow.Author.Needs.{needs}
+use Rattle.packet_spec.proofs.Limits.{level-most}
 use Rattle.delivery.specs.Course.{isKept}
 use Rattle.receiver_spec.specs.State.{keptBy, keeping}
 use Rattle.receiver_spec.specs.Answers.{isJump}
@@ -19,7 +21,7 @@ start-of-requires : tie.Need-start-of-requires
 start-of-requires c κs = search needs
 
 add-given : tie.Need-add-given
-add-given c = search needs
+add-given c = omega (arith, level-most)
 
 moved-requires : tie.Need-moved-requires
 moved-requires c κs = search needs

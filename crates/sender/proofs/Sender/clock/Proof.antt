@@ -37,6 +37,7 @@ use denote.Triple.Statement.{Contract, Triple}
 use denote.Triple.Table.{entered, cited}
 use denote.Triple.Walked.{says, Stays, gave-ref, stay-none, gave-slice, walkOf, goes-none, goes-gave-ref, goes-gave-slice, ends-at, walked, walk-meets}
 use denote.Exit.{yes}
+use Rattle.packet_spec.specs.Limits.{level}
 use Rattle.base.proofs.Records.{of-uint, Known, had, opens-whole, closes-whole, returned, copied, freed, unused, leaves-if}
 use Rattle.slots.specs.Slots.{textsSize}
 use Rattle.rate.specs.Circle.{logSize}
@@ -90,6 +91,7 @@ quiet-known : Known answers Quiet
 quiet-known = ([], (refl, (tt, (refl, tt))))
 
 abbrev stayed : Stays (this.ended .signature .params) (this.ended .kept)
+unfolding level
 stayed = (gave-ref (0 ∷ []) tt (plain (λ _. S.the-row)), (stay-none (λ _. u64) yes, (gave-ref (1 ∷ []) tt (arrayOf (plain (λ _. u8)) textsSize), (gave-ref (2 ∷ []) tt (arrayOf (plain (λ _. u64)) logSize), (gave-slice (3 ∷ []) tt (plain (λ _. u8)), tt)))))
 
 module _ {M : Type 1} (𝓤 : URA M) (H : Heap 𝓤) (A : Atoms 𝓤) (mem′ : Memory → SProp 𝓤) (run : Routine → Fun 𝓤) where
@@ -138,6 +140,7 @@ module _ {M : Type 1} (𝓤 : URA M) (H : Heap 𝓤) (A : Atoms 𝓤) (W : Given
   to-send = (((κ, (κ₁, (κ₂, (κ₃, tt)))), (q, (q₁, (q₂, (q₃, tt)))), tt, (lent, (x, (y, (t, (p, tt))))), (vptr b o ∷ [], (u ∷ [], (l ∷ [], (vint w64 t ∷ [], (v ∷ [], tt)))))), tt)
 
   goes-send : t < 2 ^ 64 → ent 𝓤 (⋆ 𝓤 H A (‵ (fsep Lends (fsep Texts (fsep Log Packet))) ∷ (‵ (flft κ q) ⊛ ‵ (flft κ₁ q₁) ⊛ ‵ (flft κ₂ q₂) ⊛ ‵ (flft κ₃ q₃) ⊛ ‵ ftrue) ∷ [])) (Sending 𝓤 H A mem′ run .pre to-send)
+  unfolding level
   goes-send fits =
       qed W (‵ (fsep Lends (fsep Texts (fsep Log Packet))) ∷ (‵ (flft κ q) ⊛ ‵ (flft κ₁ q₁) ⊛ ‵ (flft κ₂ q₂) ⊛ ‵ (flft κ₃ q₃) ⊛ ‵ ftrue) ∷ []) ∵ fsplit ! $ move ! (1 ∷ []) $ fsplit3 ! $
       nothing ! $ move ! (3 ∷ 0 ∷ []) $ fjoin ! $ had (of-uint w64) ! t (refl, fits) $ fjoin ! $ move ! (2 ∷ 0 ∷ []) $ fjoin ! $ move ! (1 ∷ 0 ∷ []) $ fjoin ! $ move ! (1 ∷ 0 ∷ []) $ fjoin ! $ move ! (1 ∷ 0 ∷ []) $ join ! $ frame ! $ done !
@@ -159,6 +162,7 @@ module _ {M : Type 1} (𝓤 : URA M) (H : Heap 𝓤) (A : Atoms 𝓤) (W : Given
 
   exits : t < 2 ^ 64 → (s' : Sender) (xs ys zs : List ℕ) (r : Answer) → Does r s' xs ys zs → length zs ≡ space → Known answers r
       → ent 𝓤 (⋆ 𝓤 H A (‵ (finally u8 (p .name) zs) ∷ ‵ (fres (y .name) (Times .coded .code ys)) ∷ ‵ (fres (x .name) (Lent .coded .code xs)) ∷ ‵ (fres γ (S.the-row .coded .code s')) ∷ (‵ (flft κ q) ⊛ ‵ (flft κ₁ q₁) ⊛ ‵ (flft κ₂ q₂) ⊛ ‵ (flft κ₃ q₃) ⊛ ‵ ftrue) ∷ [])) (Post (answers .val r))
+  unfolding level
   exits fits s' xs ys zs r e same is =
       qed W (‵ (finally u8 (p .name) zs) ∷ ‵ (fres (y .name) (Times .coded .code ys)) ∷ ‵ (fres (x .name) (Lent .coded .code xs)) ∷ ‵ (fres γ (S.the-row .coded .code s')) ∷ (‵ (flft κ q) ⊛ ‵ (flft κ₁ q₁) ⊛ ‵ (flft κ₂ q₂) ⊛ ‵ (flft κ₃ q₃) ⊛ ‵ ftrue) ∷ []) ∵
       suffices ! _ (ends-at 𝓤 H A this.ended stayed (this.clauses 𝓤 H A mem′ run) W (((κ, (κ₁, (κ₂, (κ₃, tt)))), (q, (q₁, (q₂, (q₃, tt)))), tt, args, vals), tt) (answers .val r) r (s', (tt, (xs, (ys, (zs, tt))))) (tt, (tt, (tt, (tt, (same, tt)))))) $
@@ -168,6 +172,7 @@ module _ {M : Type 1} (𝓤 : URA M) (H : Heap 𝓤) (A : Atoms 𝓤) (W : Given
 
   module _ (C : Calls 𝓤 H) (Λ : Loops 𝓤 H) (fm : FmC 𝓤 H (W .laws) C) (known-judging : Triple 𝓤 (C #sender·clocking·judge) (Judging 𝓤 H A mem′ run)) (known-is-first : Triple 𝓤 (C #settings·Judged·is-first) (IsFirst 𝓤 H A mem′ run)) (known-is-later : Triple 𝓤 (C #settings·Judged·is-later) (IsLater 𝓤 H A mem′ run)) (known-sending : Triple 𝓤 (C #sender·Sender·send) (Sending 𝓤 H A mem′ run)) (known-by-size : Triple 𝓤 (C #writer·Answer·by-size) (BySize 𝓤 H A mem′ run)) (known-is-early : Triple 𝓤 (C #settings·Judged·is-early) (IsEarly 𝓤 H A mem′ run)) (known-at : Triple 𝓤 (C #sender·clocking·at) (At 𝓤 H A mem′ run)) (known-refusing : Triple 𝓤 (C #sender·clocking·refused) (Refusing 𝓤 H A mem′ run)) where
     walk : t < 2 ^ 64 → Room u8 space → ent 𝓤 (onEntry 𝓤 H A this.signature (κ, (κ₁, (κ₂, (κ₃, tt)))) (q, (q₁, (q₂, (q₃, tt)))) args vals) (WpFn 𝓤 H C Λ code.function (vptr b o ∷ vint w64 t ∷ u ∷ l ∷ v ∷ []) Post)
+    unfolding level
     walk fits room =
         qed W ((‵ (flft κ q) ⊛ ‵ (flft κ₁ q₁) ⊛ ‵ (flft κ₂ q₂) ⊛ ‵ (flft κ₃ q₃) ⊛ ‵ ftrue) ∷ ‵ (owns (MutRef (named 0) κ S.the-row ∷ u64 ∷ MutRef (named 1) κ₁ Lent ∷ MutRef (named 2) κ₂ Times ∷ MutSlice (named 3) κ₃ u8 ∷ []) args vals) ∷ []) ∵ split ! $ move ! (2 ∷ []) $ fsplit ! $ fsplit3 ! $ drop ! $
         move ! (2 ∷ []) $ fsplit ! $ drop ! $ fsplit ! $ move ! (1 ∷ []) $ fsplit ! $ move ! (1 ∷ []) $ fsplit ! $
@@ -270,6 +275,7 @@ module _ {M : Type 1} (𝓤 : URA M) (H : Heap 𝓤) (A : Atoms 𝓤) (W : Given
 
 meets : {M : Type 1} (𝓤 : URA M) (H : Heap 𝓤) (A : Atoms 𝓤) (W : Given 𝓤 H A) (mem′ : Memory → SProp 𝓤) (run : Routine → Fun 𝓤) (𝓣 : Tables 𝓤 H) → Triple 𝓤 (𝓣 .C #sender·clocking·judge) (Judging 𝓤 H A mem′ run) → Triple 𝓤 (𝓣 .C #settings·Judged·is-first) (IsFirst 𝓤 H A mem′ run) → Triple 𝓤 (𝓣 .C #settings·Judged·is-later) (IsLater 𝓤 H A mem′ run) → Triple 𝓤 (𝓣 .C #sender·Sender·send) (Sending 𝓤 H A mem′ run) → Triple 𝓤 (𝓣 .C #writer·Answer·by-size) (BySize 𝓤 H A mem′ run) → Triple 𝓤 (𝓣 .C #settings·Judged·is-early) (IsEarly 𝓤 H A mem′ run) → Triple 𝓤 (𝓣 .C #sender·clocking·at) (At 𝓤 H A mem′ run) → Triple 𝓤 (𝓣 .C #sender·clocking·refused) (Refusing 𝓤 H A mem′ run)
     → Meets 𝓤 H A this.signature (WpFn 𝓤 H (𝓣 .C) (𝓣 .Λ) code.function) (this.spec 𝓤 H A mem′ run)
+unfolding level
 meets 𝓤 H A W mem′ run 𝓣 known-judging known-is-first known-is-later known-sending known-by-size known-is-early known-at known-refusing =
     walk-meets 𝓤 H A this.ended stayed W (goes-gave-ref 𝓤 H A W 4 0 tt (plain (λ _. S.the-row)), (goes-none 𝓤 H A W 4 (λ _. u64) yes (λ κs x f. refl), (goes-gave-ref 𝓤 H A W 4 1 tt (arrayOf (plain (λ _. u8)) textsSize), (goes-gave-ref 𝓤 H A W 4 2 tt (arrayOf (plain (λ _. u64)) logSize), (goes-gave-slice 𝓤 H A W 4 3 tt (plain (λ _. u8)), tt))))) (this.clauses 𝓤 H A mem′ run)
     (WpFn 𝓤 H (𝓣 .C) (𝓣 .Λ) code.function) (WpFn-mono 𝓤 H (W .laws) 𝓣 code.function)

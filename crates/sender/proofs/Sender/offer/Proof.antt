@@ -40,6 +40,7 @@ use denote.Triple.Statement.{Contract, Triple}
 use denote.Triple.Table.{entered, cited}
 use denote.Triple.Walked.{says, Stays, stay-ref, stay-none, stay-none-slice, gave-ref, walkOf, goes-none, goes-none-slice, goes-ref, goes-gave-ref, ends-at, walked, walk-meets}
 use denote.Exit.{yes}
+use Rattle.packet_spec.specs.Limits.{level}
 use Rattle.base.proofs.Records.{Data, of-record, of-enum, of-uint, of-bool, Known, had, opens-whole, closes-whole, returned, copied, freed, unused, leaves-if}
 use Rattle.packet.specs.declared.Outcome.{Outcome}
 use Rattle.packet.proofs.Outcome as O
@@ -99,6 +100,7 @@ abbrev Lent : RattleType
 Lent = Array u8 textsSize
 
 abbrev stayed : Stays (this.ended .signature .params) (this.ended .kept)
+unfolding level
 stayed = (stay-ref (0 ∷ []) tt (plain (λ _. S.the-row)), (stay-none (λ _. u64) yes, (stay-none-slice (1 ∷ []) tt (plain (λ _. u8)) yes, (gave-ref (2 ∷ []) tt (arrayOf (plain (λ _. u8)) textsSize), tt))))
 
 module _ {M : Type 1} (𝓤 : URA M) (H : Heap 𝓤) (A : Atoms 𝓤) (mem′ : Memory → SProp 𝓤) (run : Routine → Fun 𝓤) where
@@ -147,6 +149,7 @@ module _ {M : Type 1} (𝓤 : URA M) (H : Heap 𝓤) (A : Atoms 𝓤) (W : Given
   to-offered = (((κ₁, (κ₂, tt)), (q₁, (q₂, tt)), tt, (h, (t, (s, (x, tt)))), (senders .val h ∷ [], (vint w64 t ∷ [], (v ∷ [], (u ∷ [], tt))))), tt)
 
   goes-offered : t < 2 ^ 64 → Known senders h → ent 𝓤 (⋆ 𝓤 H A (‵ Text ∷ ‵ Texts ∷ (‵ (flft κ₁ q₁) ⊛ ‵ (flft κ₂ q₂) ⊛ ‵ ftrue) ∷ [])) (Offering 𝓤 H A mem′ run .pre to-offered)
+  unfolding level
   goes-offered fits is =
       qed W (‵ Text ∷ ‵ Texts ∷ (‵ (flft κ₁ q₁) ⊛ ‵ (flft κ₂ q₂) ⊛ ‵ ftrue) ∷ []) ∵ nothing ! $ move ! (2 ∷ 0 ∷ []) $ fjoin ! $ move ! (1 ∷ 0 ∷ []) $ fjoin ! $ had sizes ! t (refl, fits) $ fjoin ! $ had senders ! h is $ fjoin ! $
       move ! (1 ∷ 0 ∷ []) $ join ! $ frame ! $ done !
@@ -174,6 +177,7 @@ module _ {M : Type 1} (𝓤 : URA M) (H : Heap 𝓤) (A : Atoms 𝓤) (W : Given
 
   exits : t < 2 ^ 64 → (s' : Sender) (zs : List ℕ) (r : Outcome) → Offers h (x .now) t (s .now) r s' zs → Known outcomes r
       → ent 𝓤 (⋆ 𝓤 H A (‵ (fobs γ (S.the-row .coded .code s')) ∷ ‵ (fbor κ (Body (mem S.the-row) b o γ)) ∷ ‵ (flft κ q) ∷ ‵ (fres (x .name) (Lent .coded .code zs)) ∷ (‵ (flft κ₁ q₁) ⊛ ‵ (flft κ₂ q₂) ⊛ ‵ ftrue) ∷ ‵ Text ∷ [])) (Post (outcomes .val r))
+  unfolding level
   exits fits s' zs r e is =
       qed W (‵ (fobs γ (S.the-row .coded .code s')) ∷ ‵ (fbor κ (Body (mem S.the-row) b o γ)) ∷ ‵ (flft κ q) ∷ ‵ (fres (x .name) (Lent .coded .code zs)) ∷ (‵ (flft κ₁ q₁) ⊛ ‵ (flft κ₂ q₂) ⊛ ‵ ftrue) ∷ ‵ Text ∷ []) ∵
       suffices ! _ (ends-at 𝓤 H A this.ended stayed (this.clauses 𝓤 H A mem′ run) W (((κ, (κ₁, (κ₂, tt))), (q, (q₁, (q₂, tt))), tt, args, vals), tt) (outcomes .val r) r (s', (tt, (tt, (zs, tt)))) (tt, (tt, (tt, (tt, tt))))) $
@@ -186,6 +190,7 @@ module _ {M : Type 1} (𝓤 : URA M) (H : Heap 𝓤) (A : Atoms 𝓤) (W : Given
 
   module _ (C : Calls 𝓤 H) (Λ : Loops 𝓤 H) (fm : FmC 𝓤 H (W .laws) C) (known-offered : Triple 𝓤 (C #sender·offering·offered) (Offering 𝓤 H A mem′ run)) (known-is-refused : Triple 𝓤 (C #offer·Offered·is-refused) (IsRefused 𝓤 H A mem′ run)) (known-outcome : Triple 𝓤 (C #offer·Offered·outcome) (Outcoming 𝓤 H A mem′ run)) (known-characters : Triple 𝓤 (C #offer·Offered·characters) (Counting 𝓤 H A mem′ run)) (known-with : Triple 𝓤 (C #sender·offering·with) (With 𝓤 H A mem′ run)) where
     walk : t < 2 ^ 64 → Is (ShrSlice (named 1) κ₁ u8) s (v ∷ []) → ent 𝓤 (onEntry 𝓤 H A this.signature (κ, (κ₁, (κ₂, tt))) (q, (q₁, (q₂, tt))) args vals) (WpFn 𝓤 H C Λ code.function (vptr b o ∷ vint w64 t ∷ v ∷ u ∷ []) Post)
+    unfolding level
     walk fits p =
         qed W ((‵ (flft κ q) ⊛ ‵ (flft κ₁ q₁) ⊛ ‵ (flft κ₂ q₂) ⊛ ‵ ftrue) ∷ ‵ (owns (MutRef (named 0) κ S.the-row ∷ u64 ∷ ShrSlice (named 1) κ₁ u8 ∷ MutRef (named 2) κ₂ Lent ∷ []) args vals) ∷ []) ∵ split ! $ move ! (2 ∷ []) $ fsplit ! $ fsplit3 ! $ drop ! $
         move ! (2 ∷ []) $ fsplit ! $ drop ! $ fsplit ! $ move ! (1 ∷ []) $ fsplit ! $
@@ -242,6 +247,7 @@ module _ {M : Type 1} (𝓤 : URA M) (H : Heap 𝓤) (A : Atoms 𝓤) (W : Given
 
 meets : {M : Type 1} (𝓤 : URA M) (H : Heap 𝓤) (A : Atoms 𝓤) (W : Given 𝓤 H A) (mem′ : Memory → SProp 𝓤) (run : Routine → Fun 𝓤) (𝓣 : Tables 𝓤 H) → Triple 𝓤 (𝓣 .C #sender·offering·offered) (Offering 𝓤 H A mem′ run) → Triple 𝓤 (𝓣 .C #offer·Offered·is-refused) (IsRefused 𝓤 H A mem′ run) → Triple 𝓤 (𝓣 .C #offer·Offered·outcome) (Outcoming 𝓤 H A mem′ run) → Triple 𝓤 (𝓣 .C #offer·Offered·characters) (Counting 𝓤 H A mem′ run) → Triple 𝓤 (𝓣 .C #sender·offering·with) (With 𝓤 H A mem′ run)
     → Meets 𝓤 H A this.signature (WpFn 𝓤 H (𝓣 .C) (𝓣 .Λ) code.function) (this.spec 𝓤 H A mem′ run)
+unfolding level
 meets 𝓤 H A W mem′ run 𝓣 known-offered known-is-refused known-outcome known-characters known-with =
     walk-meets 𝓤 H A this.ended stayed W (goes-ref 𝓤 H A W 3 0 tt (plain (λ _. S.the-row)), (goes-none 𝓤 H A W 3 (λ _. u64) yes (λ κs x f. refl), (goes-none-slice 𝓤 H A W 3 (1 ∷ []) tt (plain (λ _. u8)) yes, (goes-gave-ref 𝓤 H A W 3 2 tt (arrayOf (plain (λ _. u8)) textsSize), tt)))) (this.clauses 𝓤 H A mem′ run)
     (WpFn 𝓤 H (𝓣 .C) (𝓣 .Λ) code.function) (WpFn-mono 𝓤 H (W .laws) 𝓣 code.function)

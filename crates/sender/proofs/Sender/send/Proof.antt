@@ -40,6 +40,7 @@ use denote.Triple.Table.{entered, cited}
 use denote.Triple.Walked.{says, Stays, stay-ref, stay-none, gave-ref, gave-slice, walkOf, goes-none, goes-ref, goes-gave-ref, goes-gave-slice, ends-at, walked, walk-meets}
 use denote.Exit.{yes}
 use denote.Struct.Laws as struct
+use Rattle.packet_spec.specs.Limits.{level}
 use Rattle.base.proofs.Records.{of-uint, Known, had, opens-whole, closes-whole, returned, copied, freed, unused, leaves-if}
 use Rattle.slots.specs.Slots.{textsSize}
 use Rattle.rate.specs.Circle.{logSize}
@@ -83,6 +84,7 @@ use Rattle.sender.proofs.Sender.send.Statement as stated
 use Rattle.sender.proofs.Sender.send.Code as code
 
 abbrev stayed : Stays (this.ended .signature .params) (this.ended .kept)
+unfolding level
 stayed = (stay-ref (0 ∷ []) tt (plain (λ _. S.the-row)), (gave-ref (1 ∷ []) tt (arrayOf (plain (λ _. u8)) textsSize), (gave-ref (2 ∷ []) tt (arrayOf (plain (λ _. u64)) logSize), (stay-none (λ _. u64) yes, (gave-slice (3 ∷ []) tt (plain (λ _. u8)), tt)))))
 
 known-size : (g : Sending) → Known sendings g → Known sizes (g .size)
@@ -128,6 +130,7 @@ module _ {M : Type 1} (𝓤 : URA M) (H : Heap 𝓤) (A : Atoms 𝓤) (W : Given
   to-put = (((κ₁, (κ₂, (κ₃, tt))), (q₁, (q₂, (q₃, tt))), tt, (h, (x, (y, (t, (p, tt))))), (senders .val h ∷ [], (u ∷ [], (l ∷ [], (vint w64 t ∷ [], (v ∷ [], tt)))))), tt)
 
   goes-put : t < 2 ^ 64 → Known senders h → ent 𝓤 (⋆ 𝓤 H A (‵ (fsep Texts (fsep Log Packet)) ∷ (‵ (flft κ₁ q₁) ⊛ ‵ (flft κ₂ q₂) ⊛ ‵ (flft κ₃ q₃) ⊛ ‵ ftrue) ∷ [])) (Putting 𝓤 H A mem′ run .pre to-put)
+  unfolding level
   goes-put fits is =
       qed W (‵ (fsep Texts (fsep Log Packet)) ∷ (‵ (flft κ₁ q₁) ⊛ ‵ (flft κ₂ q₂) ⊛ ‵ (flft κ₃ q₃) ⊛ ‵ ftrue) ∷ []) ∵ fsplit3 ! $ nothing ! $ move ! (3 ∷ 0 ∷ []) $ fjoin ! $ had (of-uint w64) ! t (refl, fits) $ fjoin ! $
       move ! (2 ∷ 0 ∷ []) $ fjoin ! $ move ! (1 ∷ 0 ∷ []) $ fjoin ! $ had senders ! h is $ fjoin ! $ move ! (1 ∷ 0 ∷ []) $ join ! $ frame ! $ done !
@@ -142,6 +145,7 @@ module _ {M : Type 1} (𝓤 : URA M) (H : Heap 𝓤) (A : Atoms 𝓤) (W : Given
 
   exits : t < 2 ^ 64 → (s' : Sender) (xs ys zs : List ℕ) (n : ℕ) → Does n s' xs ys zs → length zs ≡ space → Known sizes n
       → ent 𝓤 (⋆ 𝓤 H A (‵ (fobs γ (S.the-row .coded .code s')) ∷ ‵ (fbor κ (Body (mem S.the-row) b o γ)) ∷ ‵ (flft κ q) ∷ ‵ (finally u8 (p .name) zs) ∷ ‵ (fres (y .name) (Times .coded .code ys)) ∷ ‵ (fres (x .name) (Lent .coded .code xs)) ∷ (‵ (flft κ₁ q₁) ⊛ ‵ (flft κ₂ q₂) ⊛ ‵ (flft κ₃ q₃) ⊛ ‵ ftrue) ∷ [])) (Post (sizes .val n))
+  unfolding level
   exits fits s' xs ys zs n e same is =
       qed W (‵ (fobs γ (S.the-row .coded .code s')) ∷ ‵ (fbor κ (Body (mem S.the-row) b o γ)) ∷ ‵ (flft κ q) ∷ ‵ (finally u8 (p .name) zs) ∷ ‵ (fres (y .name) (Times .coded .code ys)) ∷ ‵ (fres (x .name) (Lent .coded .code xs)) ∷ (‵ (flft κ₁ q₁) ⊛ ‵ (flft κ₂ q₂) ⊛ ‵ (flft κ₃ q₃) ⊛ ‵ ftrue) ∷ []) ∵
       suffices ! _ (ends-at 𝓤 H A this.ended stayed (this.clauses 𝓤 H A mem′ run) W (((κ, (κ₁, (κ₂, (κ₃, tt)))), (q, (q₁, (q₂, (q₃, tt)))), tt, args, vals), tt) (sizes .val n) n (s', (xs, (ys, (tt, (zs, tt))))) (tt, (tt, (tt, (tt, (same, tt)))))) $
@@ -150,6 +154,7 @@ module _ {M : Type 1} (𝓤 : URA M) (H : Heap 𝓤) (A : Atoms 𝓤) (W : Given
 
   module _ (C : Calls 𝓤 H) (Λ : Loops 𝓤 H) (fm : FmC 𝓤 H (W .laws) C) (known-put : Triple 𝓤 (C #sender·clocking·put) (Putting 𝓤 H A mem′ run)) (known-by-size : Triple 𝓤 (C #writer·Answer·by-size) (BySize 𝓤 H A mem′ run)) (known-is-quiet : Triple 𝓤 (C #writer·Answer·is-quiet) (IsQuiet 𝓤 H A mem′ run)) (known-is-sent : Triple 𝓤 (C #writer·Answer·is-sent) (IsSent 𝓤 H A mem′ run)) (known-at : Triple 𝓤 (C #sender·clocking·at) (At 𝓤 H A mem′ run)) (known-after : Triple 𝓤 (C #sender·clocking·after) (After 𝓤 H A mem′ run)) where
     walk : t < 2 ^ 64 → Room u8 space → ent 𝓤 (onEntry 𝓤 H A this.signature (κ, (κ₁, (κ₂, (κ₃, tt)))) (q, (q₁, (q₂, (q₃, tt)))) args vals) (WpFn 𝓤 H C Λ code.function (vptr b o ∷ u ∷ l ∷ vint w64 t ∷ v ∷ []) Post)
+    unfolding level
     walk fits room =
         qed W ((‵ (flft κ q) ⊛ ‵ (flft κ₁ q₁) ⊛ ‵ (flft κ₂ q₂) ⊛ ‵ (flft κ₃ q₃) ⊛ ‵ ftrue) ∷ ‵ (owns (MutRef (named 0) κ S.the-row ∷ MutRef (named 1) κ₁ Lent ∷ MutRef (named 2) κ₂ Times ∷ u64 ∷ MutSlice (named 3) κ₃ u8 ∷ []) args vals) ∷ []) ∵ split ! $ move ! (2 ∷ []) $ fsplit ! $ fsplit3 ! $ drop ! $
         move ! (2 ∷ []) $ fsplit ! $ move ! (1 ∷ []) $ fsplit ! $ move ! (1 ∷ []) $ fsplit ! $ drop ! $ fsplit ! $ move ! (1 ∷ []) $ drop ! $
@@ -218,6 +223,7 @@ module _ {M : Type 1} (𝓤 : URA M) (H : Heap 𝓤) (A : Atoms 𝓤) (W : Given
 
 meets : {M : Type 1} (𝓤 : URA M) (H : Heap 𝓤) (A : Atoms 𝓤) (W : Given 𝓤 H A) (mem′ : Memory → SProp 𝓤) (run : Routine → Fun 𝓤) (𝓣 : Tables 𝓤 H) → Triple 𝓤 (𝓣 .C #sender·clocking·put) (Putting 𝓤 H A mem′ run) → Triple 𝓤 (𝓣 .C #writer·Answer·by-size) (BySize 𝓤 H A mem′ run) → Triple 𝓤 (𝓣 .C #writer·Answer·is-quiet) (IsQuiet 𝓤 H A mem′ run) → Triple 𝓤 (𝓣 .C #writer·Answer·is-sent) (IsSent 𝓤 H A mem′ run) → Triple 𝓤 (𝓣 .C #sender·clocking·at) (At 𝓤 H A mem′ run) → Triple 𝓤 (𝓣 .C #sender·clocking·after) (After 𝓤 H A mem′ run)
     → Meets 𝓤 H A this.signature (WpFn 𝓤 H (𝓣 .C) (𝓣 .Λ) code.function) (this.spec 𝓤 H A mem′ run)
+unfolding level
 meets 𝓤 H A W mem′ run 𝓣 known-put known-by-size known-is-quiet known-is-sent known-at known-after =
     walk-meets 𝓤 H A this.ended stayed W (goes-ref 𝓤 H A W 4 0 tt (plain (λ _. S.the-row)), (goes-gave-ref 𝓤 H A W 4 1 tt (arrayOf (plain (λ _. u8)) textsSize), (goes-gave-ref 𝓤 H A W 4 2 tt (arrayOf (plain (λ _. u64)) logSize), (goes-none 𝓤 H A W 4 (λ _. u64) yes (λ κs x f. refl), (goes-gave-slice 𝓤 H A W 4 3 tt (plain (λ _. u8)), tt))))) (this.clauses 𝓤 H A mem′ run)
     (WpFn 𝓤 H (𝓣 .C) (𝓣 .Λ) code.function) (WpFn-mono 𝓤 H (W .laws) 𝓣 code.function)

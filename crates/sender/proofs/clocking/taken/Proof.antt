@@ -5,6 +5,7 @@ use lib.ListN.{length, take, drop}
 use borrow.Author.Tests.{eq-eqb, ne-eqb}
 use borrow.Author.Needs.{needs}
 use denote.Ref.{now}
+use Rattle.packet_spec.specs.Limits.{level}
 use Rattle.text_spec.specs.Front.{front}
 use Rattle.sender_spec.specs.Limits.{roomSize}
 use Rattle.sender.proofs.clocking.taken.Statement.{statement}
@@ -22,12 +23,15 @@ room-of-requires : tie.Need-room-of-requires
 room-of-requires c κs = search needs
 
 mul-from : tie.Need-mul-from
+unfolding level
 mul-from c = search needs
 
 add-front-of : tie.Need-add-front-of
+unfolding level
 add-front-of c = search needs
 
 front-of-requires : tie.Need-front-of-requires
+unfolding level
 front-of-requires c κs = search needs
 
 returns-2 : tie.Need-returns-2

@@ -12,6 +12,7 @@ judge-requires : tie.Need-judge-requires
 judge-requires c κs = search needs
 
 few : (c : tie.Start) → length (c .args .sender .kept .lens) ≡ level
+unfolding level
 few c = search needs
 
 returns : tie.Need-returns

@@ -1,6 +1,7 @@
 use Prim.Native.Nat.{_+_}
 use mathlib.Core.Path.{_≡_}
 use borrow.Author.Needs.{needs}
+use Rattle.packet_spec.specs.Limits.{level}
 use Rattle.slots.proofs.Kept.with.Statement.{statement}
 use Rattle.slots.proofs.Kept.with.Tie as tie
 
@@ -17,6 +18,7 @@ add-count : tie.Need-add-count
 add-count c = search needs
 
 returns : tie.Need-returns
+unfolding level
 returns c =
     let shifted = c .before .before .before .shift .ensures in
     λ i. record { lens = shifted .0 i; ats = shifted .1 i; count = c .least .ensures i + 1 }

@@ -37,6 +37,7 @@ use denote.Triple.Statement.{Contract, Triple}
 use denote.Triple.Table.{entered, cited}
 use denote.Triple.Walked.{says, Stays, stay-none, gave-ref, gave-slice, walkOf, goes-none, goes-gave-ref, goes-gave-slice, ends-at, walked, walk-meets}
 use denote.Exit.{yes}
+use Rattle.packet_spec.specs.Limits.{level}
 use Rattle.base.proofs.Records.{Data, of-enum, of-uint, of-sint, Known, had, returned, copied, freed}
 use Rattle.slots.specs.Slots.{textsSize}
 use Rattle.rate.specs.Circle.{logSize}
@@ -75,6 +76,7 @@ abbrev Times : RattleType
 Times = Array u64 logSize
 
 abbrev stayed : Stays (this.ended .signature .params) (this.ended .kept)
+unfolding level
 stayed = (gave-ref (0 ∷ []) tt (plain (λ _. S.the-row)), (gave-ref (1 ∷ []) tt (arrayOf (plain (λ _. u8)) textsSize), (gave-ref (2 ∷ []) tt (arrayOf (plain (λ _. u64)) logSize), (stay-none (λ _. u64) yes, (gave-slice (3 ∷ []) tt (plain (λ _. u8)), tt)))))
 
 module _ {M : Type 1} (𝓤 : URA M) (H : Heap 𝓤) (A : Atoms 𝓤) (mem : Memory → SProp 𝓤) (run : Routine → Fun 𝓤) where
@@ -123,6 +125,7 @@ module _ {M : Type 1} (𝓤 : URA M) (H : Heap 𝓤) (A : Atoms 𝓤) (W : Given
   to-clock = (((κ, (κ₁, (κ₂, (κ₃, tt)))), (q, (q₁, (q₂, (q₃, tt)))), tt, (y, (t, (x, (l, (p, tt))))), (at-sender ∷ [], (vint w64 t ∷ [], (at-texts ∷ [], (at-log ∷ [], (v ∷ [], tt)))))), tt)
 
   goes-clock : t < 2 ^ 64 → ent 𝓤 (⋆ 𝓤 H A (‵ (fsep Lends (fsep Texts (fsep Log Packet))) ∷ (‵ (flft κ q) ⊛ ‵ (flft κ₁ q₁) ⊛ ‵ (flft κ₂ q₂) ⊛ ‵ (flft κ₃ q₃) ⊛ ‵ ftrue) ∷ [])) (Clock 𝓤 H A mem run .pre to-clock)
+  unfolding level
   goes-clock fits =
       qed W (‵ (fsep Lends (fsep Texts (fsep Log Packet))) ∷ (‵ (flft κ q) ⊛ ‵ (flft κ₁ q₁) ⊛ ‵ (flft κ₂ q₂) ⊛ ‵ (flft κ₃ q₃) ⊛ ‵ ftrue) ∷ []) ∵ fsplit ! $ move ! (1 ∷ []) $ fsplit3 ! $ nothing ! $ move ! (3 ∷ 0 ∷ []) $ fjoin ! $ move ! (2 ∷ 0 ∷ []) $ fjoin ! $ move ! (1 ∷ 0 ∷ []) $ fjoin ! $
       had (of-uint w64) ! t (refl, fits) $ fjoin ! $ move ! (1 ∷ 0 ∷ []) $ fjoin ! $ move ! (1 ∷ 0 ∷ []) $ join ! $ frame ! $ done !
@@ -135,6 +138,7 @@ module _ {M : Type 1} (𝓤 : URA M) (H : Heap 𝓤) (A : Atoms 𝓤) (W : Given
 
   exits : t < 2 ^ 64 → (s' : Sender) (xs ls zs : List ℕ) (n : ℤ) → ClocksIn (y .now) (x .now) (l .now) t (p .now) n s' xs ls zs → length zs ≡ length (p .now) → Known codes n
       → ent 𝓤 (⋆ 𝓤 H A (‵ (finally u8 (p .name) zs) ∷ ‵ (fres (l .name) (Times .coded .code ls)) ∷ ‵ (fres (x .name) (Lent .coded .code xs)) ∷ ‵ (fres (y .name) (S.the-row .coded .code s')) ∷ (‵ (flft κ q) ⊛ ‵ (flft κ₁ q₁) ⊛ ‵ (flft κ₂ q₂) ⊛ ‵ (flft κ₃ q₃) ⊛ ‵ ftrue) ∷ [])) (Post (codes .val n))
+  unfolding level
   exits fits s' xs ls zs n e same is =
       qed W (‵ (finally u8 (p .name) zs) ∷ ‵ (fres (l .name) (Times .coded .code ls)) ∷ ‵ (fres (x .name) (Lent .coded .code xs)) ∷ ‵ (fres (y .name) (S.the-row .coded .code s')) ∷ (‵ (flft κ q) ⊛ ‵ (flft κ₁ q₁) ⊛ ‵ (flft κ₂ q₂) ⊛ ‵ (flft κ₃ q₃) ⊛ ‵ ftrue) ∷ []) ∵
       suffices ! _ (ends-at 𝓤 H A this.ended stayed (this.clauses 𝓤 H A mem run) W (((κ, (κ₁, (κ₂, (κ₃, tt)))), (q, (q₁, (q₂, (q₃, tt)))), tt, args, vals), tt) (codes .val n) n (s', (xs, (ls, (tt, (zs, tt))))) (tt, (tt, (tt, (tt, (same, tt)))))) $
@@ -144,6 +148,7 @@ module _ {M : Type 1} (𝓤 : URA M) (H : Heap 𝓤) (A : Atoms 𝓤) (W : Given
 
   module _ (C : Calls 𝓤 H) (Λ : Loops 𝓤 H) (fm : FmC 𝓤 H (W .laws) C) (known-clock : Triple 𝓤 (C #sender·Sender·clock) (Clock 𝓤 H A mem run)) (known-code-of : Triple 𝓤 (C #sender-boundary·code-of) (CodeOf 𝓤 H A mem run)) where
     walk : t < 2 ^ 64 → Room u8 (length (p .now)) → ent 𝓤 (onEntry 𝓤 H A this.signature (κ, (κ₁, (κ₂, (κ₃, tt)))) (q, (q₁, (q₂, (q₃, tt)))) args vals) (WpFn 𝓤 H C Λ code.function (at-sender ∷ at-texts ∷ at-log ∷ vint w64 t ∷ v ∷ []) Post)
+    unfolding level
     walk fits room =
         qed W ((‵ (flft κ q) ⊛ ‵ (flft κ₁ q₁) ⊛ ‵ (flft κ₂ q₂) ⊛ ‵ (flft κ₃ q₃) ⊛ ‵ ftrue) ∷ ‵ (owns (MutRef (named 0) κ S.the-row ∷ MutRef (named 1) κ₁ Lent ∷ MutRef (named 2) κ₂ Times ∷ u64 ∷ MutSlice (named 3) κ₃ u8 ∷ []) args vals) ∷ []) ∵
         move ! (1 ∷ []) $ fsplit ! $ move ! (1 ∷ []) $ fsplit ! $ move ! (1 ∷ []) $ fsplit ! $ move ! (1 ∷ []) $ fsplit ! $ drop ! $ fsplit ! $
@@ -173,6 +178,7 @@ module _ {M : Type 1} (𝓤 : URA M) (H : Heap 𝓤) (A : Atoms 𝓤) (W : Given
 
 meets : {M : Type 1} (𝓤 : URA M) (H : Heap 𝓤) (A : Atoms 𝓤) (W : Given 𝓤 H A) (mem : Memory → SProp 𝓤) (run : Routine → Fun 𝓤) (𝓣 : Tables 𝓤 H) → Triple 𝓤 (𝓣 .C #sender·Sender·clock) (Clock 𝓤 H A mem run) → Triple 𝓤 (𝓣 .C #sender-boundary·code-of) (CodeOf 𝓤 H A mem run)
     → Meets 𝓤 H A this.signature (WpFn 𝓤 H (𝓣 .C) (𝓣 .Λ) code.function) (this.spec 𝓤 H A mem run)
+unfolding level
 meets 𝓤 H A W mem run 𝓣 known-clock known-code-of =
     walk-meets 𝓤 H A this.ended stayed W (goes-gave-ref 𝓤 H A W 4 0 tt (plain (λ _. S.the-row)), (goes-gave-ref 𝓤 H A W 4 1 tt (arrayOf (plain (λ _. u8)) textsSize), (goes-gave-ref 𝓤 H A W 4 2 tt (arrayOf (plain (λ _. u64)) logSize), (goes-none 𝓤 H A W 4 (λ _. u64) yes (λ κs z f. refl), (goes-gave-slice 𝓤 H A W 4 3 tt (plain (λ _. u8)), tt))))) (this.clauses 𝓤 H A mem run)
     (WpFn 𝓤 H (𝓣 .C) (𝓣 .Λ) code.function) (WpFn-mono 𝓤 H (W .laws) 𝓣 code.function)

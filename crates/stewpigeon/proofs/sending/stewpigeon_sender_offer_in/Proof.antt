@@ -36,6 +36,7 @@ use denote.Triple.Statement.{Contract, Triple}
 use denote.Triple.Table.{entered, cited}
 use denote.Triple.Walked.{says, Stays, stay-none, stay-none-slice, gave-ref, walkOf, goes-none, goes-none-slice, goes-gave-ref, ends-at, walked, walk-meets}
 use denote.Exit.{yes}
+use Rattle.packet_spec.specs.Limits.{level}
 use Rattle.base.proofs.Records.{of-uint, Known, had, returned, copied, freed}
 use Rattle.slots.specs.Slots.{textsSize}
 use Rattle.sender.specs.declared.Sender.{Sender}
@@ -59,6 +60,7 @@ abbrev Lent : RattleType
 Lent = Array u8 textsSize
 
 abbrev stayed : Stays (this.ended .signature .params) (this.ended .kept)
+unfolding level
 stayed = (gave-ref (0 ∷ []) tt (plain (λ _. S.the-row)), (gave-ref (1 ∷ []) tt (arrayOf (plain (λ _. u8)) textsSize), (stay-none (λ _. u64) yes, (stay-none-slice (2 ∷ []) tt (plain (λ _. u8)) yes, tt))))
 
 abbrev Offer : {M : Type 1} (𝓤 : URA M) (H : Heap 𝓤) (A : Atoms 𝓤) (mem : Memory → SProp 𝓤) (run : Routine → Fun 𝓤) → Contract 𝓤
@@ -96,6 +98,7 @@ module _ {M : Type 1} (𝓤 : URA M) (H : Heap 𝓤) (A : Atoms 𝓤) (W : Given
   to-offer = (((κ, (κ₂, (κ₁, tt))), (q, (q₂, (q₁, tt))), tt, (y, (t, (s, (x, tt)))), (at-sender ∷ [], (vint w64 t ∷ [], (v ∷ [], (at-texts ∷ [], tt))))), tt)
 
   goes-offer : t < 2 ^ 64 → ent 𝓤 (⋆ 𝓤 H A (‵ (fsep Lends Texts) ∷ ‵ Text ∷ (‵ (flft κ q) ⊛ ‵ (flft κ₁ q₁) ⊛ ‵ (flft κ₂ q₂) ⊛ ‵ ftrue) ∷ [])) (Offer 𝓤 H A mem run .pre to-offer)
+  unfolding level
   goes-offer fits =
       qed W (‵ (fsep Lends Texts) ∷ ‵ Text ∷ (‵ (flft κ q) ⊛ ‵ (flft κ₁ q₁) ⊛ ‵ (flft κ₂ q₂) ⊛ ‵ ftrue) ∷ []) ∵ fsplit ! $ nothing ! $ move ! (2 ∷ 0 ∷ []) $ fjoin ! $ move ! (2 ∷ 0 ∷ []) $ fjoin ! $
       had (of-uint w64) ! t (refl, fits) $ fjoin ! $ move ! (1 ∷ 0 ∷ []) $ fjoin ! $
@@ -105,6 +108,7 @@ module _ {M : Type 1} (𝓤 : URA M) (H : Heap 𝓤) (A : Atoms 𝓤) (W : Given
 
   exits : t < 2 ^ 64 → (s' : Sender) (zs : List ℕ) (n : ℕ) → OffersIn (y .now) (x .now) t (s .now) n s' zs → Known (of-uint w8) n
       → ent 𝓤 (⋆ 𝓤 H A (‵ (fres (x .name) (Lent .coded .code zs)) ∷ ‵ (fres (y .name) (S.the-row .coded .code s')) ∷ (‵ (flft κ q) ⊛ ‵ (flft κ₂ q₂) ⊛ ‵ (flft κ₁ q₁) ⊛ ‵ ftrue) ∷ ‵ Text ∷ [])) (Post (vint w8 n))
+  unfolding level
   exits fits s' zs n e is =
       qed W (‵ (fres (x .name) (Lent .coded .code zs)) ∷ ‵ (fres (y .name) (S.the-row .coded .code s')) ∷ (‵ (flft κ q) ⊛ ‵ (flft κ₂ q₂) ⊛ ‵ (flft κ₁ q₁) ⊛ ‵ ftrue) ∷ ‵ Text ∷ []) ∵
       suffices ! _ (ends-at 𝓤 H A this.ended stayed (this.clauses 𝓤 H A mem run) W (((κ, (κ₁, (κ₂, tt))), (q, (q₁, (q₂, tt))), tt, args, vals), tt) (vint w8 n) n (s', (zs, (tt, (tt, tt)))) (tt, (tt, (tt, (tt, tt))))) $
@@ -114,6 +118,7 @@ module _ {M : Type 1} (𝓤 : URA M) (H : Heap 𝓤) (A : Atoms 𝓤) (W : Given
 
   module _ (C : Calls 𝓤 H) (Λ : Loops 𝓤 H) (fm : FmC 𝓤 H (W .laws) C) (known-offer : Triple 𝓤 (C #sender·Sender·offer) (Offer 𝓤 H A mem run)) (known-number-of : Triple 𝓤 (C #boundary·number-of) (NumberOf 𝓤 H A mem run)) where
     walk : t < 2 ^ 64 → Is (ShrSlice (named 2) κ₂ u8) s (v ∷ []) → ent 𝓤 (onEntry 𝓤 H A this.signature (κ, (κ₁, (κ₂, tt))) (q, (q₁, (q₂, tt))) args vals) (WpFn 𝓤 H C Λ code.function (at-sender ∷ at-texts ∷ vint w64 t ∷ v ∷ []) Post)
+    unfolding level
     walk fits p =
         qed W ((‵ (flft κ q) ⊛ ‵ (flft κ₁ q₁) ⊛ ‵ (flft κ₂ q₂) ⊛ ‵ ftrue) ∷ ‵ (owns (MutRef (named 0) κ S.the-row ∷ MutRef (named 1) κ₁ Lent ∷ u64 ∷ ShrSlice (named 2) κ₂ u8 ∷ []) args vals) ∷ []) ∵
         move ! (1 ∷ []) $ fsplit ! $ move ! (1 ∷ []) $ fsplit ! $ move ! (1 ∷ []) $ fsplit ! $ drop ! $ fsplit ! $
@@ -138,6 +143,7 @@ module _ {M : Type 1} (𝓤 : URA M) (H : Heap 𝓤) (A : Atoms 𝓤) (W : Given
 
 meets : {M : Type 1} (𝓤 : URA M) (H : Heap 𝓤) (A : Atoms 𝓤) (W : Given 𝓤 H A) (mem : Memory → SProp 𝓤) (run : Routine → Fun 𝓤) (𝓣 : Tables 𝓤 H) → Triple 𝓤 (𝓣 .C #sender·Sender·offer) (Offer 𝓤 H A mem run) → Triple 𝓤 (𝓣 .C #boundary·number-of) (NumberOf 𝓤 H A mem run)
     → Meets 𝓤 H A this.signature (WpFn 𝓤 H (𝓣 .C) (𝓣 .Λ) code.function) (this.spec 𝓤 H A mem run)
+unfolding level
 meets 𝓤 H A W mem run 𝓣 known-offer known-number-of =
     walk-meets 𝓤 H A this.ended stayed W (goes-gave-ref 𝓤 H A W 3 0 tt (plain (λ _. S.the-row)), (goes-gave-ref 𝓤 H A W 3 1 tt (arrayOf (plain (λ _. u8)) textsSize), (goes-none 𝓤 H A W 3 (λ _. u64) yes (λ κs z f. refl), (goes-none-slice 𝓤 H A W 3 (2 ∷ []) tt (plain (λ _. u8)) yes, tt)))) (this.clauses 𝓤 H A mem run)
     (WpFn 𝓤 H (𝓣 .C) (𝓣 .Λ) code.function) (WpFn-mono 𝓤 H (W .laws) 𝓣 code.function)

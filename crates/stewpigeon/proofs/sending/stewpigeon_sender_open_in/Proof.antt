@@ -38,6 +38,7 @@ use denote.Triple.Statement.{Contract, Triple}
 use denote.Triple.Table.{entered, cited}
 use denote.Triple.Walked.{says, Stays, stay-ref, stay-none, gave-ref, walkOf, goes-none, goes-ref, goes-gave-ref, ends-at, walked, walk-meets}
 use denote.Exit.{yes}
+use Rattle.packet_spec.specs.Limits.{level}
 use Rattle.base.proofs.Records.{Data, of-record, of-uint, Known, had, opens-whole, closes-whole, returned, copied, freed}
 use Rattle.slots.specs.Slots.{textsSize}
 use Rattle.settings.specs.declared.Settings.{Settings}
@@ -72,6 +73,7 @@ abbrev Lent : RattleType
 Lent = Array u8 textsSize
 
 abbrev stayed : Stays (this.ended .signature .params) (this.ended .kept)
+unfolding level
 stayed = (
   stay-ref (0 ∷ []) tt (plain (λ _. S.the-row)),
   (
@@ -132,6 +134,7 @@ module _ {M : Type 1} (𝓤 : URA M) (H : Heap 𝓤) (A : Atoms 𝓤) (W : Given
   to-open = (((κ₁, tt), (q₁, tt), tt, (z, numbersOf x), (at-texts ∷ [], valuesOf x)), tt)
 
   goes-open : Fit x → ent 𝓤 (⋆ 𝓤 H A (‵ Texts ∷ (‵ (flft κ₁ q₁) ⊛ ‵ ftrue) ∷ [])) (Open 𝓤 H A mem′ run .pre to-open)
+  unfolding level
   goes-open f =
       qed W (‵ Texts ∷ (‵ (flft κ₁ q₁) ⊛ ‵ ftrue) ∷ []) ∵ nothing ! $ had (of-uint w32) ! (x .source) (f .1 .1 .1 .1 .1 .1 .1 .0) $ fjoin ! $ had (of-uint w32) ! (x .timestamp) (f .1 .1 .1 .1 .1 .1 .0) $ fjoin ! $
       had (of-uint w16) ! (x .sequence) (f .1 .1 .1 .1 .1 .0) $ fjoin ! $ had (of-uint w8) ! (x .red) (f .1 .1 .1 .1 .0) $ fjoin ! $ had (of-uint w8) ! (x .t140) (f .1 .1 .1 .0) $ fjoin ! $
@@ -139,6 +142,7 @@ module _ {M : Type 1} (𝓤 : URA M) (H : Heap 𝓤) (A : Atoms 𝓤) (W : Given
 
   exits : (s' : Sender) (zs : List ℕ) (n : ℕ) → OpensIn x n s' zs → Known (of-uint w8) n
       → ent 𝓤 (⋆ 𝓤 H A (‵ (fobs γ (S.the-row .coded .code s')) ∷ ‵ (fbor κ (Body (mem S.the-row) b o γ)) ∷ ‵ (flft κ q) ∷ ‵ (fres (z .name) (Lent .coded .code zs)) ∷ (‵ (flft κ₁ q₁) ⊛ ‵ ftrue) ∷ ‵ Held-numbers ∷ [])) (Post (vint w8 n))
+  unfolding level
   exits s' zs n e is =
       qed W (‵ (fobs γ (S.the-row .coded .code s')) ∷ ‵ (fbor κ (Body (mem S.the-row) b o γ)) ∷ ‵ (flft κ q) ∷ ‵ (fres (z .name) (Lent .coded .code zs)) ∷ (‵ (flft κ₁ q₁) ⊛ ‵ ftrue) ∷ ‵ Held-numbers ∷ []) ∵
       suffices ! _ (ends-at 𝓤 H A this.ended stayed (this.clauses 𝓤 H A mem′ run) W (((κ, (κ₁, tt)), (q, (q₁, tt)), tt, args, vals), tt) (vint w8 n) n (s', (zs, (tt, (tt, (tt, (tt, (tt, (tt, (tt, (tt, tt)))))))))) (tt, (tt, (tt, (tt, (tt, (tt, (tt, (tt, (tt, (tt, tt))))))))))) $
@@ -149,6 +153,7 @@ module _ {M : Type 1} (𝓤 : URA M) (H : Heap 𝓤) (A : Atoms 𝓤) (W : Given
     passed = vptr b o ∷ at-texts ∷ vint w64 (x .level) ∷ vint w64 (x .buffering) ∷ vint w64 (x .rate) ∷ vint w8 (x .t140) ∷ vint w8 (x .red) ∷ vint w16 (x .sequence) ∷ vint w32 (x .timestamp) ∷ vint w32 (x .source) ∷ []
 
     walk : Fit x → ent 𝓤 (onEntry 𝓤 H A this.signature (κ, (κ₁, tt)) (q, (q₁, tt)) args vals) (WpFn 𝓤 H C Λ code.function passed Post)
+    unfolding level
     walk f =
         qed W ((‵ (flft κ q) ⊛ ‵ (flft κ₁ q₁) ⊛ ‵ ftrue) ∷ ‵ (owns (MutRef (named 0) κ S.the-row ∷ MutRef (named 1) κ₁ Lent ∷ usize ∷ u64 ∷ usize ∷ u8 ∷ u8 ∷ u16 ∷ u32 ∷ u32 ∷ []) args vals) ∷ []) ∵
         split ! $ move ! (2 ∷ []) $ fsplit ! $ fsplit3 ! $ drop ! $ move ! (2 ∷ []) $ fsplit ! $
@@ -177,6 +182,7 @@ module _ {M : Type 1} (𝓤 : URA M) (H : Heap 𝓤) (A : Atoms 𝓤) (W : Given
 
 meets : {M : Type 1} (𝓤 : URA M) (H : Heap 𝓤) (A : Atoms 𝓤) (W : Given 𝓤 H A) (mem′ : Memory → SProp 𝓤) (run : Routine → Fun 𝓤) (𝓣 : Tables 𝓤 H) → Triple 𝓤 (𝓣 .C #sender-boundary·open) (Open 𝓤 H A mem′ run) → Triple 𝓤 (𝓣 .C #boundary·number-of) (NumberOf 𝓤 H A mem′ run)
     → Meets 𝓤 H A this.signature (WpFn 𝓤 H (𝓣 .C) (𝓣 .Λ) code.function) (this.spec 𝓤 H A mem′ run)
+unfolding level
 meets 𝓤 H A W mem′ run 𝓣 known-open known-number-of =
     walk-meets 𝓤 H A this.ended stayed W (
       goes-ref 𝓤 H A W 2 0 tt (plain (λ _. S.the-row)),

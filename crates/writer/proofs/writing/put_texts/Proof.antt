@@ -73,6 +73,7 @@ whole c part e =
     begun-last (waitingAt (now (a .texts)) (a .room) (a .len)) (textsOf (now (a .texts)) (a .room) (a .t4) (a .len) (a .count)) (now (a .to)) (l .to) (l .at) (left c) (c .before .before .before .before .pre .2) part e
 
 loop-holds : tie.Need-loop-holds Inv-loop μ-loop
+unfolding level
 loop-holds c =
     let a = c .before .before .args in
     (omega arith, turn-none (textAt (now (a .texts)) (a .room) (a .t4)) (waitingAt (now (a .texts)) (a .room) (a .len)) (a .count) (now (a .to)) level (c .before .before .pre .1))
@@ -84,6 +85,7 @@ mul-n : tie.Need-mul-n Inv-loop μ-loop
 mul-n c = search needs
 
 array-read-n : tie.Need-array-read-n Inv-loop μ-loop
+unfolding level
 array-read-n c = search needs
 
 sub-put-text : tie.Need-sub-put-text Inv-loop μ-loop

@@ -1,6 +1,7 @@
 use Prim.Native.Nat.{_-_, _≤_}
 use mathlib.Core.Path.{_≡_}
 use native.Mathlib.Omega.{arith}
+use Rattle.packet_spec.specs.Limits.{level}
 use Rattle.slots.specs.Slots.{slotOf}
 use borrow.Author.Needs.{needs}
 use Rattle.writer.proofs.writing.start.Statement.{statement}
@@ -10,12 +11,15 @@ room-of-requires : tie.Need-room-of-requires
 room-of-requires c κs = search needs
 
 mul-at : tie.Need-mul-at
+unfolding level
 mul-at c = search needs
 
 mul-before : tie.Need-mul-before
+unfolding level
 mul-before c = search needs
 
 returns : tie.Need-returns
+unfolding level
 returns c =
     let a = c .before .before .args in
     let r = c .before .room-of in
@@ -24,12 +28,15 @@ returns c =
     (omega (arith, e), omega (arith, e))
 
 add-result : tie.Need-add-result
+unfolding level
 add-result c = search needs
 
 sub-result : tie.Need-sub-result
+unfolding level
 sub-result c = search needs
 
 returns-2 : tie.Need-returns-2
+unfolding level
 returns-2 c = search needs
 
 pub start-spec : {M : Type 1} → statement M

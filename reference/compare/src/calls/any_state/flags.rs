@@ -9,6 +9,8 @@ use super::senders::{clock_call_on, offer_to};
 use super::{log, sender};
 use crate::plan::{Plan, RED, T140};
 use crate::random::Random;
+use independent::sender::LONGEST_PACKET;
+use independent::LEVEL;
 use stewpigeon::lent::{Pace, Progress, Receiver, Sender, Settings};
 
 /// Steps of a receiver with these flags that has heard the packet's source
@@ -19,7 +21,7 @@ fn steps(
     has_kept: u8,
     tally: &mut Tally,
 ) -> Result<(), String> {
-    let count = random.below(5);
+    let count = random.within(0, LEVEL);
     let plan = Plan::small_red(random, count);
     let packet = plan.bytes();
     let heard = |due| match has_source {
@@ -68,7 +70,7 @@ fn flagged(random: &mut Random, sent: u8) -> Held {
     let clock = random.number() >> 1;
     let record = Sender {
         settings: Settings {
-            level: random.below(5),
+            level: random.within(0, LEVEL),
             buffering: random.within(1, 500) as u64,
             rate: random.within(16, 100),
             t140: T140,
@@ -111,17 +113,18 @@ fn clock_calls(random: &mut Random, sent: u8, tally: &mut Tally) -> Result<(), S
         _ => Answer::Done("quiet"),
     };
     for (at, space, due) in [
-        (clock, 900, early),
-        (clock + buffering - 1, 900, early),
-        (clock + buffering, 900, Answer::Done("sent")),
+        (clock, LONGEST_PACKET, early),
+        (clock + buffering - 1, LONGEST_PACKET, early),
+        (clock + buffering, LONGEST_PACKET, Answer::Done("sent")),
         (clock + buffering, 12, Answer::Refused(8)),
-        (clock.wrapping_sub(1), 900, Answer::Refused(5)),
+        (clock.wrapping_sub(1), LONGEST_PACKET, Answer::Refused(5)),
     ] {
         same(clock_call_on(random, &held, &log, at, space, tally)?, due)?;
     }
     // Nothing waits, and nothing is to be repeated.
     (held.record.len, held.record.count) = (0, 0);
-    let quiet = clock_call_on(random, &held, &log, clock + buffering, 900, tally)?;
+    let at = clock + buffering;
+    let quiet = clock_call_on(random, &held, &log, at, LONGEST_PACKET, tally)?;
     same(quiet, Answer::Done("quiet"))
 }
 

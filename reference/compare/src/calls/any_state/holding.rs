@@ -7,6 +7,7 @@ use super::receivers;
 use super::{flag, time, twice};
 use crate::plan::Plan;
 use crate::random::Random;
+use independent::LEVEL;
 use stewpigeon::lent::{HoldingReceiver, HoldingStep, Step};
 
 /// A call on this receiver, made twice.
@@ -90,7 +91,7 @@ fn meet(before: &HoldingReceiver, call: &Call, step: &HoldingStep, tally: &mut T
 /// A receiver of any values, with a packet that may be the one it holds.
 fn receiver(random: &mut Random) -> (HoldingReceiver, Plan) {
     let any = random.number();
-    let count = random.below(5);
+    let count = random.within(0, LEVEL);
     let mut held = Plan::small_red(random, count);
     let clock = random.pick(&[0, 1_000, 20_000, any, u64::MAX - 600, u64::MAX]);
     let ago = random.pick(&[0, 1, 999, 1_000, 1_001]);
@@ -127,7 +128,7 @@ fn clock(random: &mut Random, receiver: &HoldingReceiver) -> u64 {
 
 pub fn step(random: &mut Random, tally: &mut Tally) -> Result<(), String> {
     let (mut before, held) = receiver(random);
-    let count = random.below(5);
+    let count = random.within(0, LEVEL);
     let mut plan = Plan::small_red(random, count);
     if !random.once_in(12) {
         plan.source = held.source;

@@ -8,6 +8,7 @@ use super::super::tally::Tally;
 use super::holding::call_on;
 use crate::plan::{Plan, RED, T140};
 use crate::random::Random;
+use independent::LEVEL;
 use stewpigeon::lent::{HoldingReceiver, Receiver};
 
 /// `has_source`, `has_kept` and `has_held`.
@@ -45,7 +46,7 @@ fn steps(random: &mut Random, flags: Flags, tally: &mut Tally) -> Result<(), Str
     let [has_source, has_kept, has_held] = flags.map(|flag| flag != 0);
     let (source, expected) = (random.number() as u32, random.number() as u16);
     let clock = random.number() >> 1;
-    let older = random.below(5);
+    let older = random.within(0, LEVEL);
     let held = |held, none| Done(if has_held { held } else { none });
     let first = |due| match has_source {
         false => held("new-before-held", "new"),
@@ -100,7 +101,7 @@ fn steps(random: &mut Random, flags: Flags, tally: &mut Tally) -> Result<(), Str
 fn waits(random: &mut Random, flags: Flags, tally: &mut Tally) -> Result<(), String> {
     let (source, expected) = (random.number() as u32, random.number() as u16);
     let clock = random.number() >> 1;
-    let older = random.below(5);
+    let older = random.within(0, LEVEL);
     let held = |held| match flags[2] {
         0 => Done("nothing"),
         _ => Done(held),

@@ -9,10 +9,11 @@ mod senders;
 
 use std::fmt::Debug;
 
-use super::held::{Held, LEVEL, ROOM, SLOTS};
+use super::held::{Held, KEPT, ROOM, SLOTS};
 use super::library::Answered;
 use super::tally::Tally;
 use crate::random::Random;
+use independent::LEVEL;
 use stewpigeon::lent;
 
 /// A length or count, its bounds being likely.
@@ -53,9 +54,9 @@ fn flag(random: &mut Random) -> u8 {
 
 fn settings(random: &mut Random) -> lent::Settings {
     let any = random.number();
-    let level = random.below(5);
+    let level = random.within(0, LEVEL);
     let mut settings = lent::Settings {
-        level: size(random, 4),
+        level: size(random, LEVEL),
         buffering: random.pick(&[0, 1, 300, 500, 501, any]),
         rate: size(random, 100),
         t140: random.byte(),
@@ -91,13 +92,13 @@ pub fn sender(random: &mut Random) -> Held {
     let record = lent::Sender {
         settings,
         clock,
-        room: size(random, LEVEL),
+        room: size(random, KEPT),
         len: size(random, ROOM),
         characters: size(random, ROOM),
         since: time(random, clock),
-        lens: [(); LEVEL].map(|()| size(random, ROOM)),
-        ats: [(); LEVEL].map(|()| time(random, clock)),
-        count: size(random, LEVEL),
+        lens: [(); KEPT].map(|()| size(random, ROOM)),
+        ats: [(); KEPT].map(|()| time(random, clock)),
+        count: size(random, KEPT),
         pace: lent::Pace {
             next: size(random, slots),
             used: size(random, slots),

@@ -8,6 +8,7 @@ use super::{flag, twice};
 use crate::check::hex;
 use crate::plan::{Plan, RED, T140};
 use crate::random::Random;
+use independent::LEVEL;
 use stewpigeon::lent;
 
 /// A step of this receiver, made twice.
@@ -87,7 +88,7 @@ pub fn receiver(random: &mut Random, source: u32) -> lent::Receiver {
 }
 
 pub fn step(random: &mut Random, tally: &mut Tally) -> Result<(), String> {
-    let count = random.below(5);
+    let count = random.within(0, LEVEL);
     let mut plan = Plan::small_red(random, count);
     let mut before = receiver(random, plan.source);
     if random.once_in(12) {

@@ -1,6 +1,6 @@
 //! Offers and clock calls on senders of any values.
 
-use super::super::held::{Held, Meaning, LEVEL, ROOM, SLOTS};
+use super::super::held::{Held, Meaning, KEPT, ROOM, SLOTS};
 use super::super::log::{limit, times, Log};
 use super::super::senders::{clocked, offered};
 use super::super::tally::{Answer, Call, Tally};
@@ -9,6 +9,7 @@ use super::{log, sender};
 use crate::check::hex;
 use crate::patterns::Lent;
 use crate::random::Random;
+use independent::sender::LONGEST_PACKET;
 use stewpigeon::lent;
 
 /// A clock at, after or before the latest.
@@ -41,7 +42,7 @@ fn as_due(library: &Held, wanted: &Held, meant: &Meaning) -> bool {
 
 /// A call was done on this record, which may be such as no call leaves.
 fn meet(record: &lent::Sender, done: bool, tally: &mut Tally) {
-    let count = record.count.min(LEVEL);
+    let count = record.count.min(KEPT);
     let long = record.lens[..count].iter().any(|len| *len > ROOM);
     for (what, met) in [
         (
@@ -50,8 +51,8 @@ fn meet(record: &lent::Sender, done: bool, tally: &mut Tally) {
         ),
         ("calls done in any state: a block's length above 160", long),
         (
-            "calls done in any state: a count above 4",
-            record.count > LEVEL,
+            "calls done in any state: a count above the most blocks",
+            record.count > KEPT,
         ),
         (
             "calls done in any state: characters above 160",
@@ -193,7 +194,8 @@ pub fn clock_call(random: &mut Random, tally: &mut Tally) -> Result<(), String> 
     let log = log(random, before.record.clock);
     let clock = clock(random, &before.record);
     let mut times = times(&before.record, &log);
-    let due = rules::clock(&mut Meaning::of(&before), &mut times, clock, &mut [0; 900]);
+    let mut space = [0; LONGEST_PACKET];
+    let due = rules::clock(&mut Meaning::of(&before), &mut times, clock, &mut space);
     let length = due.max(0) as usize;
     let far = random.below(length.max(1));
     let space = random.pick(&[length, length, length.saturating_sub(1), far, length + 9]);

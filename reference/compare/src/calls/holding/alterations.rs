@@ -5,6 +5,7 @@ use super::pair::Pair;
 use crate::damage::{mutate, BAD};
 use crate::plan::Plan;
 use crate::random::Random;
+use independent::LEVEL;
 
 /// A way to alter the packet held.
 #[derive(Clone, Copy)]
@@ -63,7 +64,7 @@ pub const ALTERATIONS: [Alteration; 8] = [
 
 /// A good packet of the source, so many numbers above the one held.
 fn another(random: &mut Random, pair: &Pair, above: u16) -> Vec<u8> {
-    let count = random.below(5);
+    let count = random.within(0, LEVEL);
     let mut plan = Plan::small_red(random, count);
     let record = pair.record();
     plan.sequence = record.held.wrapping_add(above);

@@ -1,8 +1,9 @@
 //! Which of the calls that must be met were met.
 
+use super::super::each::Each;
 use super::super::tally::{Answer, Tally};
 use super::call::{Call, Stepped};
-use super::rows::{STEPS, WAITS};
+use super::rows::{steps, waits, Row};
 use independent::holding::{HoldingReceiver, HOLD_TIME};
 use independent::{read, Packet};
 use stewpigeon::lent::HoldingStep;
@@ -165,11 +166,17 @@ impl<'a> Seen<'a> {
 
     pub fn meet(&self, tally: &mut Tally) {
         tally.add(self.call.name(), self.kind);
-        let rows = match self.call.packet {
-            Some(_) => &STEPS[..],
-            None => &WAITS,
-        };
-        for (what, _) in rows.iter().filter(|(_, met)| met(self)) {
+        if self.step.of == HoldingStep::HELD {
+            tally.each(Each::Held, self.step.step.older);
+        }
+        match self.call.packet {
+            Some(_) => self.meet_rows(steps(), tally),
+            None => self.meet_rows(waits(), tally),
+        }
+    }
+
+    fn meet_rows(&self, rows: impl Iterator<Item = &'static Row>, tally: &mut Tally) {
+        for (what, _) in rows.filter(|(_, met)| met(self)) {
             tally.meet(*what, true);
         }
     }
@@ -177,7 +184,7 @@ impl<'a> Seen<'a> {
 
 /// Everything that must be met.
 pub fn all(tally: &mut Tally) {
-    for (what, _) in STEPS.iter().chain(&WAITS) {
+    for (what, _) in steps().chain(waits()) {
         tally.meet(*what, false);
     }
 }

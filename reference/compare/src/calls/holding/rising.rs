@@ -11,6 +11,7 @@ use independent::channel::{self, Delivery, Line, State};
 use independent::holding::HOLD_TIME;
 use independent::record::AHEAD;
 use independent::sender::Settings;
+use independent::LEVEL;
 
 /// The places of some packets in a line, so near to each other that one is in
 /// the window even where the two before it were not handed out yet.
@@ -20,7 +21,7 @@ fn places(random: &mut Random, count: usize) -> Vec<usize> {
     while place < count {
         places.push(place);
         let far = random.within(1, AHEAD / 2);
-        place += random.pick(&[1, 1, 1, 2, 3, 5, 6, far, AHEAD / 2]);
+        place += random.pick(&[1, 1, 1, 2, 3, LEVEL + 1, LEVEL + 2, far, AHEAD / 2]);
     }
     places
 }
@@ -74,7 +75,7 @@ pub fn rising(random: &mut Random, calls: usize, tally: &mut Tally) -> Result<()
         for _ in 0..4 {
             list(random, &settings, &line, tally)?;
         }
-        level = (level + 1) % 5;
+        level = (level + 1) % (LEVEL + 1);
     }
     Ok(())
 }

@@ -1,11 +1,12 @@
 //! What must be met in calls on receivers that hold.
 
 use super::met::Seen;
+use independent::LEVEL;
 
 /// What it is called, and whether a call is such a one.
 pub type Row = (&'static str, fn(&Seen) -> bool);
 
-pub const STEPS: [Row; 38] = [
+const STEPS: [Row; 36] = [
     ("holding: a first packet", |s| s.is("new") && s.is_first()),
     ("holding: a number kept, cleared in order", |s| {
         s.is("new") && s.keeps_number()
@@ -43,9 +44,6 @@ pub const STEPS: [Row; 38] = [
     ("holding: a nearer one with marks", |s| {
         s.is("new-before-held") && s.marks()
     }),
-    ("holding: a nearer one with some of its older blocks", |s| {
-        s.is("new-before-held") && s.some_older()
-    }),
     (
         "holding: a nearer one that closes the held one's gap",
         |s| s.is("new-before-held") && s.is_closed_behind_new(),
@@ -63,10 +61,6 @@ pub const STEPS: [Row; 38] = [
     ("holding: a farther one, the held one's gap closed", |s| {
         s.is("held-keep-new") && !s.marks()
     }),
-    (
-        "holding: a farther one, some of the held one's older blocks",
-        |s| s.is("held-keep-new") && s.some_older(),
-    ),
     ("holding: a farther one, its own gap closed then", |s| {
         s.is("held-keep-new") && s.new_is_closed()
     }),
@@ -76,8 +70,8 @@ pub const STEPS: [Row; 38] = [
     ("holding: held at distance 1", |s| {
         s.is("keep-new") && s.distance() == 1
     }),
-    ("holding: held at distance 5", |s| {
-        s.is("keep-new") && s.distance() == 5
+    ("holding: held one further than repeats can close", |s| {
+        s.is("keep-new") && s.distance() == LEVEL as i16 + 1
     }),
     ("holding: held at distance 2,998", |s| {
         s.is("keep-new") && s.distance() == 2_998
@@ -121,7 +115,7 @@ pub const STEPS: [Row; 38] = [
     }),
 ];
 
-pub const WAITS: [Row; 19] = [
+const WAITS: [Row; 18] = [
     ("waits: 999 ms after arrival", |s| {
         s.is("keep-held") && s.age() == Some(999)
     }),
@@ -143,14 +137,11 @@ pub const WAITS: [Row; 19] = [
     ("waits: a gap open by one", |s| {
         s.is("keep-held") && s.missing() == Some(1)
     }),
-    ("waits: some older blocks given", |s| {
-        s.is("held") && s.some_older()
-    }),
     ("waits: all older blocks given", |s| {
         s.is("held") && s.all_older()
     }),
-    ("waits: all of four older blocks given", |s| {
-        s.is("held") && s.step.step.given == 5
+    ("waits: all of the most older blocks given", |s| {
+        s.is("held") && s.step.step.given == LEVEL + 1
     }),
     ("waits: the held one given, a number kept", |s| {
         s.is("held") && s.keeps_number()
@@ -176,3 +167,32 @@ pub const WAITS: [Row; 19] = [
     ("waits: 5 with none held", |s| s.refused(5) && !s.has_held()),
     ("waits: 27 after 1,000 ms", |s| s.refused(27) && s.is_old()),
 ];
+
+/// Those of packets with several older blocks.
+const STEPS_OF_SEVERAL: [Row; 2] = [
+    ("holding: a nearer one with some of its older blocks", |s| {
+        s.is("new-before-held") && s.some_older()
+    }),
+    (
+        "holding: a farther one, some of the held one's older blocks",
+        |s| s.is("held-keep-new") && s.some_older(),
+    ),
+];
+
+const WAITS_OF_SEVERAL: [Row; 1] = [("waits: some older blocks given", |s| {
+    s.is("held") && s.some_older()
+})];
+
+/// These rows, and those where several older blocks are read.
+fn rows(rows: &'static [Row], of_several: &'static [Row]) -> impl Iterator<Item = &'static Row> {
+    let several = if LEVEL > 1 { of_several } else { &[] };
+    rows.iter().chain(several)
+}
+
+pub fn steps() -> impl Iterator<Item = &'static Row> {
+    rows(&STEPS, &STEPS_OF_SEVERAL)
+}
+
+pub fn waits() -> impl Iterator<Item = &'static Row> {
+    rows(&WAITS, &WAITS_OF_SEVERAL)
+}

@@ -3,7 +3,8 @@
 use super::super::receivers::Pair;
 use super::receiving::{expecting, open, step};
 use super::{same, Case, Given};
-use independent::packets::red;
+use independent::packets::{older, red};
+use independent::LEVEL;
 use stewpigeon::lent::Step;
 use Seen::{Break, Forward, Jump, Late, Refused};
 
@@ -92,11 +93,12 @@ fn t8_behind_t7(given: &mut Given<'_>) -> Result<(), String> {
 
 /// Each on a receiver of its own.
 fn ends(given: &mut Given<'_>) -> Result<(), String> {
+    let repeats = red(3_004, older(LEVEL), b"x");
     for row in [
         (packet(5), Late(-1), None),
         (packet(6), Forward(0), None),
         (packet(3_004), Forward(2_998), None),
-        (red(3_004, &[b"1", b"2"], b"x"), Forward(2_996), None),
+        (repeats, Forward(2_998 - LEVEL as u16), None),
         (packet(3_005), Jump(2_999), Some(3_006)),
         (packet(65_442), Late(-100), None),
         (packet(65_441), Jump(-101), Some(65_442)),
@@ -168,13 +170,12 @@ fn over_wrap(given: &mut Given<'_>) -> Result<(), String> {
 
 /// It leaves what a fresh receiver with the same packet would.
 fn all_blocks(given: &mut Given<'_>) -> Result<(), String> {
-    let older: [&[u8]; 4] = [b"1", b"", "€".as_bytes(), b"4"];
-    for r in 0..=4 {
+    for r in 0..=LEVEL {
         let mut pair = expecting(given, 6)?;
         same(seen(given, &mut pair, &packet(10_000))?, Jump(9_994))?;
-        let packet = red(10_001, &older[..r], b"p");
+        let packet = red(10_001, older(r), b"p");
         let answer = step(given, &mut pair, &packet)?;
-        let text = [older[..r].concat(), b"p".to_vec()].concat();
+        let text = [older(r).concat(), b"p".to_vec()].concat();
         let due = Step {
             course: Step::BREAK,
             loss: 0,

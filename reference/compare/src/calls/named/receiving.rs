@@ -4,11 +4,11 @@ use super::super::answers::Stepped;
 use super::super::receivers::Pair;
 use super::{same, Case, Given};
 use crate::captures;
-use independent::packets::red;
-use independent::{paper, read};
+use independent::packets::{older, red};
+use independent::{paper, read, LEVEL};
 use stewpigeon::lent::{self, Step};
 
-pub const CASES: [Case; 17] = [
+pub const CASES: [Case; 18] = [
     ("T1: no bytes", t1),
     ("T2: 80 62 and ten zeros", t2),
     ("T3, T4: the paper's packet, and again", t3_t4),
@@ -23,7 +23,11 @@ pub const CASES: [Case; 17] = [
     ("a refused opening, and the zero receiver", zero_receiver),
     ("another source: 16", other_source),
     ("older blocks of impossible ages: 22", impossible_ages),
-    ("every distance, 0 to 4 older blocks", every_distance),
+    (
+        "every distance, all numbers of older blocks",
+        every_distance,
+    ),
+    ("as many lost as repeated, and one more", lost),
     ("marks into 0 to 10 bytes", marks),
     ("the captures", captured),
 ];
@@ -87,12 +91,16 @@ fn t3_t4(given: &mut Given<'_>) -> Result<(), String> {
     let first = seen(given, &mut pair, &packet)?;
     same(first, Ok((Step::FORWARD, 0, 0, b"A".to_vec(), Some(6))))?;
     let read = read(None, 98, 100, &packet).map_err(|number| format!("{number}"))?;
-    same(read.older()[0].offset, 300)?;
+    let offsets: Vec<u16> = read.older().map(|older| older.offset).collect();
+    same(&offsets[..], &[300])?;
     let again = seen(given, &mut pair, &packet)?;
     same(again, Ok((Step::LATE, 0, -1, vec![], Some(6))))
 }
 
 fn t5(given: &mut Given<'_>) -> Result<(), String> {
+    if given.tally.leaves_out("T5", 2) {
+        return Ok(());
+    }
     let mut pair = expecting(given, 6)?;
     let seen = seen(given, &mut pair, &red(9, &[b"g", b"h"], b"i"))?;
     same(seen, Ok((Step::FORWARD, 1, 3, b"ghi".to_vec(), Some(10))))
@@ -188,20 +196,20 @@ fn other_source(given: &mut Given<'_>) -> Result<(), String> {
 /// The receiver stays where it is, fresh or not, and what such a packet held
 /// comes with the next one's repeats.
 fn impossible_ages(given: &mut Given<'_>) -> Result<(), String> {
-    let mut equal = red(6, &[b"f", b"g"], b"h");
-    equal.copy_within(13..15, 17);
-    let mut bad_text = equal.clone();
+    let mut zero = red(6, &[b"g"], b"h");
+    zero[13..15].fill(0);
+    let mut bad_text = zero.clone();
     *bad_text.last_mut().expect("a primary") = 0xff;
-    let mut passing = equal.clone();
+    let mut passing = zero.clone();
     passing[15] = 3;
-    let mut other = equal.clone();
+    let mut other = zero.clone();
     other[11] ^= 1;
     let mut fresh = open(given)?;
     let mut heard = expecting(given, 6)?;
     for (pair, source) in [(&mut fresh, 22), (&mut heard, 16)] {
         let before = pair.record();
         for (packet, due) in [
-            (&equal, 22),
+            (&zero, 22),
             (&bad_text, 22),
             (&passing, 20),
             (&other, source),
@@ -210,19 +218,19 @@ fn impossible_ages(given: &mut Given<'_>) -> Result<(), String> {
             same(pair.record(), before)?;
         }
     }
-    let seen = seen(given, &mut heard, &red(7, &[b"g", b"h"], b"i"))?;
+    let seen = seen(given, &mut heard, &red(7, &[b"h"], b"i"))?;
     same(seen, Ok((Step::FORWARD, 0, 1, b"hi".to_vec(), Some(8))))
 }
 
 /// Each receiver is moved by the packet, so each distance has its own.
 fn every_distance(given: &mut Given<'_>) -> Result<(), String> {
-    let older: [&[u8]; 4] = [b"1", b"", "€".as_bytes(), b"4"];
-    let half = (0..12).chain(2_990..3_010).chain(32_760..32_780);
+    let near = LEVEL as u32 + 8;
+    let half = (0..near).chain(2_990..3_010).chain(32_760..32_780);
     for d in half.chain(65_425..65_536) {
-        for r in 0..=4 {
+        for r in 0..=LEVEL {
             let mut pair = expecting(given, 65_530)?;
             let sequence = (65_530 + d) % 65_536;
-            let packet = red(sequence as u16, &older[..r], b"p");
+            let packet = red(sequence as u16, older(r), b"p");
             let answer = step(given, &mut pair, &packet)?;
             let wanted = r.min(d as usize);
             let (ahead, behind) = (d as i32, d as i32 - 65_536);
@@ -237,6 +245,22 @@ fn every_distance(given: &mut Given<'_>) -> Result<(), String> {
                 (step.course, loss, distance, step.given)
             };
             same(answer.map(seen), Ok(due))?;
+        }
+    }
+    Ok(())
+}
+
+fn lost(given: &mut Given<'_>) -> Result<(), String> {
+    for r in 0..=LEVEL {
+        let text = [&older(r).concat()[..], b"p"].concat();
+        for loss in [0, 1] {
+            let d = r as u16 + loss;
+            let mut pair = expecting(given, 65_530)?;
+            let number = 65_530_u16.wrapping_add(d);
+            let seen = seen(given, &mut pair, &red(number, older(r), b"p"))?;
+            let next = Some(number.wrapping_add(1));
+            let due = (Step::FORWARD, loss, d as i16, text.clone(), next);
+            same(seen, Ok(due))?;
         }
     }
     Ok(())
