@@ -1,6 +1,6 @@
 -- Readers and receivers that are wrong, each with the demand that it fails, by computing one case (01, "How the promises are to
 -- be judged" and "Errors a bidder will be drawn to"). Each is our line with another call or two.
-use Prim.Native.Nat.{ℕ, suc}
+use Prim.Native.Nat.{ℕ, zero, suc, _-_, _*_}
 use mathlib.Core.Path.{_≡_, refl, ap}
 use mathlib.Core.List.{List, [], _∷_, map}
 use mathlib.Core.Bool.{true, false, cond}
@@ -105,6 +105,25 @@ unfolding reading headers level
 any-age-fails d =
     let p = redundant 0 9 (0xE2 ∷ 0x00 ∷ 0x00 ∷ 0x01 ∷ 0x62 ∷ 0x41 ∷ 0x42 ∷ []) in
     let z : _≡_ {A = ℕ} 0 1 = ap numberOf (d .reads Any 98 100 p) in
+    omega arith
+
+-- the headers of so many empty older blocks, and what lies behind them
+abbrev olders : ℕ → List ℕ → List ℕ
+olders zero s = s
+olders (suc n) s = 0xE2 ∷ 0x00 ∷ 4 * suc n ∷ 0x00 ∷ olders n s
+
+-- a reader of one older block more than the highest level
+pub one-more-fails : Demand2 (withRead (reading (suc level))) → ⊥
+unfolding reading headers level
+one-more-fails d =
+    let z : _≡_ {A = ℕ} 0 1 = ap numberOf (d .reads Any 98 100 (redundant 0 9 (olders (suc level) (0x62 ∷ [])))) in
+    omega arith
+
+-- and of one fewer
+pub one-fewer-fails : Demand2 (withRead (reading (level - 1))) → ⊥
+unfolding reading headers level
+one-fewer-fails d =
+    let z : _≡_ {A = ℕ} 1 0 = ap numberOf (d .reads Any 98 100 (redundant 0 9 (olders level (0x62 ∷ [])))) in
     omega arith
 
 -- openings that always refuse

@@ -18,7 +18,7 @@ use Rattle.sender_spec.specs.Offering.{senderWith}
 use Rattle.sender_spec.specs.Calls.{offerOf, clockOf, clockQuiet}
 use Rattle.demands.specs.Line.{Line}
 use Rattle.demands.specs.Ours.{ours}
-use Rattle.demands.specs.Sending.{offer, clock}
+use Rattle.demands.specs.Sending.{Call, offer, clock}
 use Rattle.demands.specs.Demand2.{Demand2}
 use Rattle.demands.specs.Demand3.{Demand3}
 use Rattle.demands.proofs.ImpostorReceivers.{settings, space}
@@ -101,21 +101,31 @@ like s x kept progress = record {
   progress = progress;
 }
 
--- repeats past its level: a sender of R writes as one of R + 1; at R 0 packet 1 repeats `A`
-abbrev deep : Settings → Settings
-deep x = record { level = suc (x .level); buffering = x .buffering; rate = x .rate; t140 = x .t140; red = x .red; sequence = x .sequence; timestamp = x .timestamp; source = x .source }
+-- writes as a sender of another level
+abbrev atLevel : ℕ → Settings → Settings
+atLevel R x = record { level = R; buffering = x .buffering; rate = x .rate; t140 = x .t140; red = x .red; sequence = x .sequence; timestamp = x .timestamp; source = x .source }
 
 abbrev backTo : Settings → ClockResult → ClockResult
 backTo x r = record { answer = r .answer; sender = like (r .sender) x (r .sender .kept) (r .sender .progress); lent = r .lent }
 
-abbrev pastLevel : Line
-pastLevel = withSender offerOf (λ s t p. backTo (s .settings) (clockOf (like s (deep (s .settings)) (s .kept) (s .progress)) t p))
+abbrev writingAt : (ℕ → ℕ) → Line
+writingAt other = withSender offerOf (λ s t p. backTo (s .settings) (clockOf (like s (atLevel (other (s .settings .level)) (s .settings)) (s .kept) (s .progress)) t p))
 
-pub past-level-fails : Demand3 pastLevel → ⊥
+abbrev two-packets : List Call
+two-packets = offer 0 (0x41 ∷ []) ∷ clock 0 space ∷ offer 300 (0x42 ∷ []) ∷ clock 300 space ∷ []
+
+-- repeats one block more than its level says: at R 0 packet 1 repeats `A`
+pub past-level-fails : Demand3 (writingAt suc) → ⊥
 unfolding reading headers sender.openSender settingsNumber offerOf clockOf level
 past-level-fails d =
-    let calls = offer 0 (0x41 ∷ []) ∷ clock 0 space ∷ offer 300 (0x42 ∷ []) ∷ clock 300 space ∷ [] in
-    let z : _≡_ {A = ℕ} 1 0 = ap length (d .keeps (settings 0) calls refl .reads 1 _ refl .older) in
+    let z : _≡_ {A = ℕ} 1 0 = ap length (d .keeps (settings 0) two-packets refl .reads 1 _ refl .older) in
+    omega arith
+
+-- one fewer: at R 1 packet 1 repeats nothing
+pub short-of-level-fails : Demand3 (writingAt (λ n. n - 1)) → ⊥
+unfolding reading headers sender.openSender settingsNumber offerOf clockOf level
+short-of-level-fails d =
+    let z : _≡_ {A = ℕ} 0 1 = ap length (d .keeps (settings 1) two-packets refl .reads 1 _ refl .older) in
     omega arith
 
 -- ages are not tested: kept blocks pass for ones sent 1 ms ago; `A`, sent at 0, is repeated at 16,384

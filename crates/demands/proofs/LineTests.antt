@@ -1,5 +1,5 @@
--- 01's line tests, by computing.
--- Needs level 2.
+-- 01's line tests, by computing. T11's sender keeps three blocks.
+-- Needs level 3.
 use mathlib.Core.Path.{refl}
 use Rattle.packet_spec.specs.Limits.{level}
 use Rattle.packet_spec.specs.Redundancy.{headers}

@@ -1,5 +1,5 @@
 -- What proofs may use of the highest level, whatever it is: it is from 1 to 7.
-use Prim.Native.Nat.{ℕ, _≤_}
+use Prim.Native.Nat.{_≤_}
 use native.Mathlib.Omega.{arith}
 use Rattle.packet_spec.specs.Limits.{level}
 

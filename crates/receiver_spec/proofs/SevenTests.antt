@@ -8,7 +8,6 @@ use lib.IntN.{pos}
 use Rattle.packet_spec.specs.Limits.{level}
 use Rattle.packet_spec.specs.Redundancy.{headers}
 use Rattle.packet_spec.specs.Reading.{reading}
-use Rattle.receiver_spec.specs.State.{Receiver}
 use Rattle.receiver_spec.specs.Answers.{StepAnswer, gives}
 use Rattle.receiver_spec.specs.Step.{stepOf}
 use Rattle.receiver_spec.proofs.AgeTests.{Row, Holds, ages, number, fresh, packet, aged, blocks, row}
