@@ -110,7 +110,7 @@ pub struct Packet {
 }
 
 impl Packet {
-    // The highest number of older blocks.
+    // The highest level R, and number of older blocks; `level` in packet_spec is the same for the definitions.
     pub const LEVEL: usize = 7;
     // The lengths of packets that are read.
     pub const SHORTEST: usize = 12;

@@ -7,6 +7,6 @@ shortest = 12
 abbrev pub longest : ℕ
 longest = 1472
 
--- the highest level R of a sender, and of older blocks in a packet that is read; from 1 to 7, which is all that proofs use
+-- the highest level R of a sender, and the most older blocks that are read; proofs use only that it is from 1 to 7
 unfoldable pub level : ℕ
 level = 7
