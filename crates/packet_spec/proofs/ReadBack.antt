@@ -1,5 +1,5 @@
 -- A packet that is written is read back: every field and every block, at any level.
-use Prim.Native.Nat.{ℕ, zero, suc, _+_, _-_, _*_, _/_, _%_, _≤_, _<_}
+use Prim.Native.Nat.{ℕ, suc, _+_, _-_, _*_, _/_, _%_, _≤_, _<_}
 use mathlib.Core.Path.{_≡_, _∙_, refl, ap, sym}
 use mathlib.Core.List.{List, [], _∷_, _++_, map, append-assoc, append-nil}
 use mathlib.Core.Bool.{Bool, true, false, cond, not, _||_}
@@ -31,7 +31,7 @@ abbrev pub headsFor : List Block → List Head
 headsFor [] = []
 headsFor (b ∷ bs) = record { offset = b .offset; len = length (b .bytes) } ∷ headsFor bs
 
-pub head-back : (t : ℕ) (b : Block) (rest : List ℕ) → length (b .bytes) ≤ 1023 → headOf (headBytes t b ++ rest) ≡ record { offset = b .offset; len = length (b .bytes) }
+head-back : (t : ℕ) (b : Block) (rest : List ℕ) → length (b .bytes) ≤ 1023 → headOf (headBytes t b ++ rest) ≡ record { offset = b .offset; len = length (b .bytes) }
 head-back t b rest h =
     let o = b .offset in
     let n = length (b .bytes) in
@@ -39,18 +39,38 @@ head-back t b rest h =
     let y : (o % 64 * 4 + n / 256) % 4 * 256 + n % 256 ≡ n = omega arith in
     λ i. record { offset = x i; len = y i }
 
-heads-back : (t n : ℕ) (got : List Head) (bs : List Block) (rest : List ℕ) → t < 128 → length bs ≤ n → LengthsFit bs
-    → headers t n got (headsBytes t bs ++ rest) ≡ heads (got ++ headsFor bs) rest
-heads-back t n got [] rest ht h f = last t got t rest n ht refl ∙ ap (λ (l : List Head). heads l rest) (sym (append-nil got))
-heads-back t zero got (b ∷ bs) rest ht h f = absurd (omega arith)
-heads-back t (suc n) got (b ∷ bs) rest ht h f =
+-- the headers of older blocks
+abbrev pub olderHeaders : ℕ → List Block → List ℕ
+olderHeaders t [] = []
+olderHeaders t (b ∷ bs) = headBytes t b ++ olderHeaders t bs
+
+-- they are read one by one, and behind them so many fewer are allowed
+pub older-read : (t n k : ℕ) (got : List Head) (bs : List Block) (s : List ℕ) → t < 128 → k ≡ length bs + n → LengthsFit bs
+    → headers t k got (olderHeaders t bs ++ s) ≡ headers t n (got ++ headsFor bs) s
+older-read t n k got [] s ht e f = let q : k ≡ n = omega arith in λ i. headers t (q i) (sym (append-nil got) i) s
+older-read t n k got (b ∷ bs) s ht e f =
     let g : Head = record { offset = b .offset; len = length (b .bytes) } in
-    let m = headsBytes t bs ++ rest in
-    ap (headers t (suc n) got) (append-assoc (headBytes t b) (headsBytes t bs) rest)
-    ∙ one-more t got (128 + t) _ (omega arith) (omega arith) n (omega arith)
-    ∙ ap (λ (x : Head). headers t n (got ++ (x ∷ [])) m) (head-back t b m (f .0))
-    ∙ heads-back t n (got ++ (g ∷ [])) bs rest ht (omega arith) (f .1)
-    ∙ ap (λ (l : List Head). heads l rest) (append-assoc got (g ∷ []) (headsFor bs))
+    let j = length bs + n in
+    let q : k ≡ suc j = omega arith in
+    let rest = olderHeaders t bs ++ s in
+    (λ i. headers t (q i) got (append-assoc (headBytes t b) (olderHeaders t bs) s i))
+    ∙ one-more t got (128 + t) _ (omega arith) (omega arith) j (omega arith)
+    ∙ ap (λ (x : Head). headers t j (got ++ (x ∷ [])) rest) (head-back t b rest (f .0))
+    ∙ older-read t n j (got ++ (g ∷ [])) bs s ht refl (f .1)
+    ∙ ap (λ (l : List Head). headers t n l s) (append-assoc got (g ∷ []) (headsFor bs))
+
+-- with the primary's behind them
+with-last : (t : ℕ) (bs : List Block) (rest : List ℕ) → headsBytes t bs ++ rest ≡ olderHeaders t bs ++ (t ∷ rest)
+with-last t [] rest = refl
+with-last t (b ∷ bs) rest =
+    append-assoc (headBytes t b) (headsBytes t bs) rest ∙ ap (λ (l : List ℕ). headBytes t b ++ l) (with-last t bs rest)
+    ∙ sym (append-assoc (headBytes t b) (olderHeaders t bs) (t ∷ rest))
+
+heads-back : (t n : ℕ) (bs : List Block) (rest : List ℕ) → t < 128 → length bs ≤ n → LengthsFit bs
+    → headers t n [] (headsBytes t bs ++ rest) ≡ heads (headsFor bs) rest
+heads-back t n bs rest ht h f =
+    let m = n - length bs in
+    ap (headers t n []) (with-last t bs rest) ∙ older-read t m n [] bs (t ∷ rest) ht (omega arith) f ∙ last t (headsFor bs) t rest m ht refl
 
 older-back : (bs : List Block) (q : List ℕ) → olderOf (headsFor bs) (joined (blocksOf bs q)) ≡ bs
 older-back [] q = refl
@@ -183,7 +203,7 @@ module _ (n : ℕ) (expected : Expected) (t140 red : ℕ) (c : Content) (types :
       let t : areText hs body ≡ true = ap (λ (l : List Block). allText (blocksOf l (primaryOf hs body))) o ∙ ap (λ (l : List ℕ). allText (blocksOf (c .older) l)) q ∙ text in
       let other : otherType t140 red p ≡ false = rw (eq-eqb (payloadType p) red type) (and-false (not (eqb (payloadType p) t140))) in
       let h : headsBy n t140 p rest ≡ heads hs body =
-      rw (ne-eqb (payloadType p) t140 (λ e. types-small t140 red types .2 (sym e ∙ type))) (heads-back t140 n [] (c .older) body small few fit) in
+      rw (ne-eqb (payloadType p) t140 (λ e. types-small t140 red types .2 (sym e ∙ type))) (heads-back t140 n (c .older) body small few fit) in
       passed n expected t140 red c red rest types admits small-red short other
       ∙ ap (blocksRead p) h
       ∙ whole n expected t140 red c red rest types admits small-red short hs body (total-back (c .older) (c .primary)) (ap falling (ages-back (c .older)) ∙ ages) t o q
