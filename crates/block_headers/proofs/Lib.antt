@@ -1,2 +1,3 @@
 pub mod HeadersByFacts
 pub mod AnswerTells
+pub mod HeadPlaces

@@ -1,13 +1,16 @@
 // The block headers of a payload (RFC 2198, section 3).
 ghost use mathlib.Core.Path.{_≡_};
 ghost use mathlib.Core.List.{[]};
+ghost use mathlib.Core.Bool.{_&&_};
 ghost use Prim.Native.Nat.{_+_, _≤_};
-ghost use lib.ListN.{length};
+ghost use lib.Dec.{ltb};
+ghost use lib.ListN.{length, drop};
 ghost use lib.Seq.{slice};
 ghost use Rattle.packet_spec.specs.Limits.{level};
 ghost use Rattle.packet_spec.specs.Redundancy as Heads;
 ghost use Rattle.packet.specs.Refusal.{number};
-ghost use Rattle.block_headers.specs.internal.Seen.{seenHead, headersSeen, refusedHeads, seenBefore, headersOf};
+ghost use Rattle.block_headers.specs.Headers.{seenHead, headAt};
+ghost use Rattle.block_headers.specs.internal.Seen.{headersSeen, refusedHeads, seenBefore, headersOf};
 use packet::Outcome;
 use packet::Packet;
 use packet::Refusal;
@@ -18,18 +21,19 @@ pub struct Head {
     pub len: u16,
 }
 
-// What the headers say: the older blocks, of which the first `count` count, and where the oldest starts. All zeros where they
-// are refused.
+// What the headers say: how many older blocks there are, where the oldest starts, where the primary does, behind all of them, and
+// whether each is older than the next. All zeros where the headers are refused.
 pub struct Headers {
     pub outcome: Outcome,
     pub count: usize,
-    pub heads: [Head; Packet::LEVEL],
     pub first: usize,
+    pub primary: usize,
+    pub ages_fall: bool,
 }
 
-fn head_at(packet: &[u8], at: usize, end: usize) -> Head
-    requires { ⌜ (at + 4 ≤ end) × (end ≤ length (now packet)) ⌝ }
-    ensures { λ r. ⌜ seenHead r ≡ Heads.headOf (slice at end (now (packet .entry))) ⌝ }
+fn read_head(packet: &[u8], at: usize) -> Head
+    requires { ⌜ at + 4 ≤ length (now packet) ⌝ }
+    ensures { λ r. ⌜ (seenHead r ≡ Heads.headOf (drop at (now (packet .entry)))) × (r .offset ≤ 16383) × (r .len ≤ 1023) ⌝ }
 {
     let x = numbers::wide16(packet[at + 1]);
     let y = numbers::wide16(packet[at + 2]);
@@ -40,16 +44,39 @@ fn head_at(packet: &[u8], at: usize, end: usize) -> Head
     }
 }
 
+// The older block's header at a place; zeros where it does not lie within the packet.
+pub fn head_at(packet: &[u8], at: usize) -> Head
+    ensures { λ r. ⌜ (seenHead r ≡ headAt (now (packet .entry)) at) × (r .len ≤ 1023) ⌝ }
+{
+    if packet.len() < 4 {
+        return Head { offset: 0, len: 0 };
+    }
+    if packet.len() - 4 < at {
+        return Head { offset: 0, len: 0 };
+    }
+    read_head(packet, at)
+}
+
 fn refused(refusal: Refusal) -> Headers
     ensures { λ r. ⌜ headersSeen r ≡ refusedHeads (number refusal) ⌝ }
 {
-    let none = Head { offset: 0, len: 0 };
     Headers {
         outcome: Outcome::Refused(refusal),
         count: 0,
-        heads: [none; Packet::LEVEL],
         first: 0,
+        primary: 0,
+        ages_fall: false,
     }
+}
+
+// Ages that fall so far, to `last`, and then to `age`.
+fn fall_to(fall: bool, last: u16, age: u16) -> bool
+    ensures { λ r. ⌜ r ≡ (fall && ltb age last) ⌝ }
+{
+    if last <= age {
+        return false;
+    }
+    fall
 }
 
 // Of a redundant payload.
@@ -57,10 +84,12 @@ fn read_headers(t140: u8, packet: &[u8], from: usize, end: usize) -> Headers
     requires { ⌜ (from ≤ end) × (end ≤ length (now packet)) ⌝ }
     ensures { λ r. ⌜ headersSeen r ≡ seenBefore end (Heads.headers t140 level [] (slice from end (now (packet .entry)))) ⌝ }
 {
-    let none = Head { offset: 0, len: 0 };
-    let mut heads = [none; Packet::LEVEL];
     let mut count: usize = 0;
     let mut at = from;
+    let mut total: usize = 0;
+    let mut fall = true;
+    // above every age of 14 bits
+    let mut last: u16 = 16384;
     loop {
         if end <= at {
             return refused(Refusal::BlockHeaders);
@@ -70,11 +99,15 @@ fn read_headers(t140: u8, packet: &[u8], from: usize, end: usize) -> Headers
             if b != t140 {
                 return refused(Refusal::BlockType);
             }
+            // the primary's age is 0
+            let ages_fall = fall_to(fall, last, 0);
+            let first = at + 1;
             return Headers {
                 outcome: Outcome::Accepted,
                 count,
-                heads,
-                first: at + 1,
+                first,
+                primary: first + total,
+                ages_fall,
             };
         }
         if count == Packet::LEVEL {
@@ -86,8 +119,10 @@ fn read_headers(t140: u8, packet: &[u8], from: usize, end: usize) -> Headers
         if b - 128 != t140 {
             return refused(Refusal::BlockType);
         }
-        let head = head_at(packet, at, end);
-        heads[count] = head;
+        let head = read_head(packet, at);
+        fall = fall_to(fall, last, head.offset);
+        last = head.offset;
+        total += head.len as usize;
         count += 1;
         at += 4;
     }
@@ -104,12 +139,12 @@ pub fn read(plain: bool, t140: u8, packet: &[u8], from: usize, end: usize) -> He
         return refused(Refusal::BlockHeaders);
     }
     if plain {
-        let none = Head { offset: 0, len: 0 };
         return Headers {
             outcome: Outcome::Accepted,
             count: 0,
-            heads: [none; Packet::LEVEL],
             first: from,
+            primary: from,
+            ages_fall: true,
         };
     }
     read_headers(t140, packet, from, end)

@@ -1,4 +1,4 @@
-pub mod AgesWalk
 pub mod BlockWalk
 pub mod Outcomes
 pub mod SeenByFacts
+pub mod BlockPlaces

@@ -6,12 +6,9 @@ use mathlib.Core.Bool.{Bool, cond}
 use native.Mathlib.Omega.{arith}
 use lib.ListN.{length}
 use lib.Seq.{slice, length-slice}
-use Rattle.base.specs.Arrays.{filled}
 use Rattle.packet_spec.specs.Limits.{level}
 use Rattle.packet_spec.specs.Redundancy.{Head, Heads, heads, headers, total}
-use Rattle.packet.specs.Places.{none}
 use Rattle.block_headers.specs.internal.Seen.{headsWithin}
-use Rattle.blocks.specs.internal.Placing.{headPlaces}
 use Rattle.blocks.specs.internal.Seen.{placedBlocks, seenBehind, blocksSeenAt}
 use Rattle.block_headers.proofs.HeadersByFacts as Within
 
@@ -26,8 +23,8 @@ module _ (plain : Bool) (t140 : ℕ) (p : List ℕ) (from end : ℕ) where
 
 -- blocks from the place where the first lies
 pub placed-from : (p : List ℕ) (first end : ℕ) (hs : List Head) → first ≤ end → end ≤ length p
-    → record { number = 0; count = length hs; older = filled none level (headPlaces first hs); primary = first + total hs } ≡ placedBlocks end hs (slice first end p)
+    → record { number = 0; count = length hs; first = first; primary = first + total hs } ≡ placedBlocks end hs (slice first end p)
 placed-from p first end hs ahead within =
     let l : length (slice first end p) ≡ end - first = length-slice first end p within in
     let f : first ≡ end - length (slice first end p) = omega arith in
-    ap (λ (k : ℕ). record { number = 0; count = length hs; older = filled none level (headPlaces k hs); primary = k + total hs }) f
+    ap (λ (k : ℕ). record { number = 0; count = length hs; first = k; primary = k + total hs }) f

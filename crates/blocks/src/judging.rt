@@ -1,48 +1,19 @@
-// Whether the blocks of a payload are such as may be: their ages fall, and they are text.
+// Whether the blocks of a payload are text.
 ghost use mathlib.Core.Path.{_≡_};
 ghost use mathlib.Core.Bool.{cond};
-ghost use Prim.Native.Nat.{_+_, _≤_};
-ghost use lib.ListN.{length};
+ghost use Prim.Native.Nat.{_+_, _*_, _≤_};
+ghost use lib.ListN.{length, drop};
 ghost use lib.Seq.{slice};
-ghost use Rattle.packet_spec.specs.Limits.{level};
-ghost use Rattle.packet_spec.specs.Redundancy.{total, agesFall, areText};
-ghost use Rattle.block_headers.specs.internal.Seen.{seenHeads};
-ghost use Rattle.blocks.specs.internal.Judging.{judged};
-use crate::placing;
-use block_headers::Head;
+ghost use Rattle.packet_spec.specs.Redundancy.{total, areText};
+ghost use Rattle.packet_spec.specs.internal.Heads.{headsIn};
 use packet::Outcome;
-use packet::Packet;
 use packet::Refusal;
-
-// Whether each older block is older than the one behind it, and the last than the primary, whose age is 0.
-fn ages_fall(count: usize, heads: [Head; Packet::LEVEL]) -> bool
-    requires { ⌜ count ≤ level ⌝ }
-    ensures { λ r. ⌜ r ≡ agesFall (seenHeads count heads) ⌝ }
-{
-    let mut newer: u16 = 0;
-    let mut k = count;
-    while 0 < k {
-        k -= 1;
-        let head = heads[k];
-        let age = head.offset;
-        if age <= newer {
-            return false;
-        }
-        newer = age;
-    }
-    true
-}
+use text::Walked;
 
 // Refused where a block is not text. A long payload of ASCII alone is text wherever its blocks part.
-fn judge_text(
-    packet: &[u8],
-    first: usize,
-    count: usize,
-    heads: [Head; Packet::LEVEL],
-    end: usize,
-) -> Outcome
-    requires { ⌜ (count ≤ level) × (first + total (seenHeads count heads) ≤ end) × (end ≤ length (now packet)) ⌝ }
-    ensures { λ r. ⌜ r ≡ cond (areText (seenHeads count heads) (slice first end (now (packet .entry)))) Outcome.Accepted (Outcome.Refused Refusal.BlockText) ⌝ }
+pub fn judge_text(packet: &[u8], from: usize, first: usize, count: usize, end: usize) -> Outcome
+    requires { ⌜ (from + 4 * count ≤ first) × (first + total (headsIn count (drop from (now packet))) ≤ end) × (end ≤ length (now packet)) ⌝ }
+    ensures { λ r. ⌜ r ≡ cond (areText (headsIn count (drop from (now (packet .entry)))) (slice first end (now (packet .entry)))) Outcome.Accepted (Outcome.Refused Refusal.BlockText) ⌝ }
 {
     let len = end - first;
     if 64 <= len {
@@ -51,22 +22,59 @@ fn judge_text(
             return Outcome::Accepted;
         }
     }
-    placing::check(packet, first, count, heads, end)
+    check(packet, from, first, count, end)
 }
 
-// Refused where the ages do not fall, or a block is not text.
-pub fn judge(
-    packet: &[u8],
-    first: usize,
-    count: usize,
-    heads: [Head; Packet::LEVEL],
-    end: usize,
-) -> Outcome
-    requires { ⌜ (count ≤ level) × (first + total (seenHeads count heads) ≤ end) × (end ≤ length (now packet)) ⌝ }
-    ensures { λ r. ⌜ r ≡ judged (seenHeads count heads) (slice first end (now (packet .entry))) ⌝ }
+// Refused where a block is not text. The older blocks lie together from `first` on, then the primary up to `end`.
+fn check(packet: &[u8], from: usize, first: usize, count: usize, end: usize) -> Outcome
+    requires { ⌜ (from + 4 * count ≤ first) × (first + total (headsIn count (drop from (now packet))) ≤ end) × (end ≤ length (now packet)) ⌝ }
+    ensures { λ r. ⌜ r ≡ cond (areText (headsIn count (drop from (now (packet .entry)))) (slice first end (now (packet .entry)))) Outcome.Accepted (Outcome.Refused Refusal.BlockText) ⌝ }
 {
-    if ages_fall(count, heads) {
-        return judge_text(packet, first, count, heads, end);
+    let mut outcome = Outcome::Accepted;
+    let mut at = first;
+    let mut k: usize = 0;
+    'blocks: loop {
+        let mut to = end;
+        if k < count {
+            let head = block_headers::head_at(packet, from + 4 * k);
+            to = at + head.len as usize;
+        }
+        let mut owed = text::fresh();
+        let mut i = at;
+        while i < to {
+            let byte = packet[i];
+            let tails = owed.tails;
+            if tails == 0 {
+                if 0x80 <= byte {
+                    match text::lead(byte) {
+                        Walked::Next(next) => owed = next,
+                        Walked::Bad => {
+                            outcome = Outcome::Refused(Refusal::BlockText);
+                            break 'blocks;
+                        }
+                    }
+                }
+            } else {
+                match text::step(owed, byte) {
+                    Walked::Next(next) => owed = next,
+                    Walked::Bad => {
+                        outcome = Outcome::Refused(Refusal::BlockText);
+                        break 'blocks;
+                    }
+                }
+            }
+            i += 1;
+        }
+        let tails = owed.tails;
+        if tails != 0 {
+            outcome = Outcome::Refused(Refusal::BlockText);
+            break 'blocks;
+        }
+        if k == count {
+            break 'blocks;
+        }
+        at = to;
+        k += 1;
     }
-    Outcome::Refused(Refusal::BlockAges)
+    outcome
 }

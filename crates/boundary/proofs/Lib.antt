@@ -1,2 +1,3 @@
 pub mod RecordsLeft
 pub mod RecordHolds
+pub mod PacketRecords

@@ -1,5 +1,7 @@
 // What the exported calls answer, in the numbers and records of their callers. A flag in a record is a byte: 0 is false,
 // and any other value true.
+pub mod packets;
+
 ghost use mathlib.Core.Path.{_≡_};
 ghost use Rattle.text_spec.specs.Utf8.{textOf};
 ghost use Rattle.packet.specs.Refusal.{outcomeNumber};

@@ -183,10 +183,10 @@ fn tell(answer: Answer, of: Which, keep: Which, again: bool) -> HoldingAnswer
 }
 
 // With none held: the step, but for a packet that would cause loss, which is held.
-pub fn arrive_alone(receiver: Receiver, clock: u64, packet: Packet) -> Advanced
-    ensures { λ r. ⌜ ArrivesAlone (receiverOf receiver) clock packet (advanced r) ⌝ }
+pub fn arrive_alone(receiver: Receiver, clock: u64, bytes: &[u8], packet: Packet) -> Advanced
+    ensures { λ r. ⌜ ArrivesAlone (receiverOf receiver) clock (now (bytes .entry)) packet (advanced r) ⌝ }
 {
-    let step = receiver.accept(packet);
+    let step = receiver.accept(bytes, packet);
     let answer = step.answer;
     if would_lose(answer) {
         let waiting = cleared(receiver);
@@ -229,12 +229,14 @@ pub fn arrive_behind(
     receiver: Receiver,
     clock: u64,
     arrival: u64,
+    held: &[u8],
     lent: Packet,
+    bytes: &[u8],
     packet: Packet,
 ) -> Advanced
-    ensures { λ r. ⌜ ArrivesBehind (receiverOf receiver) clock arrival lent packet (advanced r) ⌝ }
+    ensures { λ r. ⌜ ArrivesBehind (receiverOf receiver) clock arrival (now (held .entry)) lent (now (bytes .entry)) packet (advanced r) ⌝ }
 {
-    let step = receiver.accept(packet);
+    let step = receiver.accept(bytes, packet);
     let answer = step.answer;
     if !receiver.has_source {
         return stay(step.receiver, answer, lent.sequence, arrival, clock);
@@ -251,14 +253,14 @@ pub fn arrive_behind(
         };
     }
     if is_break(answer) {
-        let given = receiver.give(lent);
+        let given = receiver.give(held, lent);
         let receiver = empty(given.receiver, clock);
         let answer = given.answer;
         let answer = tell(answer, Which::Held, Which::Neither, true);
         return Advanced { receiver, answer };
     }
     if is_farther(receiver, answer, lent.sequence, packet.sequence) {
-        let given = cleared(receiver).give(lent);
+        let given = cleared(receiver).give(held, lent);
         let receiver = holds(given.receiver, packet.sequence, clock, clock);
         let answer = given.answer;
         let answer = tell(answer, Which::Held, Which::New, false);
@@ -268,10 +270,16 @@ pub fn arrive_behind(
 }
 
 // Without a packet: the held one goes out where nothing would be lost, or its time is over.
-pub fn wait_behind(receiver: Receiver, clock: u64, arrival: u64, lent: Packet) -> Advanced
-    ensures { λ r. ⌜ WaitsBehind (receiverOf receiver) clock arrival lent (advanced r) ⌝ }
+pub fn wait_behind(
+    receiver: Receiver,
+    clock: u64,
+    arrival: u64,
+    held: &[u8],
+    lent: Packet,
+) -> Advanced
+    ensures { λ r. ⌜ WaitsBehind (receiverOf receiver) clock arrival (now (held .entry)) lent (advanced r) ⌝ }
 {
-    let given = receiver.give(lent);
+    let given = receiver.give(held, lent);
     let answer = given.answer;
     if is_early(answer, clock, arrival) {
         let receiver = holds(receiver, lent.sequence, arrival, clock);

@@ -76,7 +76,7 @@ pub fn step_alone(holder: HoldingReceiver, clock: u64, packet: &[u8]) -> Advance
         Outcome::Refused(refusal) => refused(holder, refusal),
         Outcome::Accepted => {
             let content = reading.packet;
-            arriving::arrive_alone(receiver, clock, content)
+            arriving::arrive_alone(receiver, clock, packet, content)
         }
     }
 }
@@ -99,7 +99,7 @@ pub fn step_behind(holder: HoldingReceiver, clock: u64, lent: &[u8], packet: &[u
         Outcome::Accepted => {
             let held = back.packet;
             let content = reading.packet;
-            arriving::arrive_behind(receiver, clock, holder.arrival, held, content)
+            arriving::arrive_behind(receiver, clock, holder.arrival, lent, held, packet, content)
         }
     }
 }
@@ -115,7 +115,7 @@ pub fn wait_behind(holder: HoldingReceiver, clock: u64, lent: &[u8]) -> Advanced
         Outcome::Refused(refusal) => refused(holder, refusal),
         Outcome::Accepted => {
             let held = back.packet;
-            arriving::wait_behind(receiver, clock, holder.arrival, held)
+            arriving::wait_behind(receiver, clock, holder.arrival, lent, held)
         }
     }
 }

@@ -1,20 +1,15 @@
 -- The reader's answer: 01's number, and the packet with its blocks given by their places.
-use Prim.Native.Nat.{ℕ, _+_, _-_}
-use mathlib.Core.List.{List, [], _∷_}
-use mathlib.Core.Bool.{cond}
-use lib.Dec.{ltb, eqb}
-use lib.ListN.{length, getD}
+use Prim.Native.Nat.{ℕ, _-_}
+use mathlib.Core.List.{List}
+use lib.ListN.{length}
 use Rattle.packet.specs.declared.Expected as code
 use Rattle.packet.specs.declared.Expected.the-variants as source
-use Rattle.packet.specs.declared.Older.{Older}
 use Rattle.packet.specs.declared.Packet.{Packet}
 use Rattle.packet.specs.declared.Reading.{Reading}
-use Rattle.base.specs.Arrays.{filled, part}
 use Rattle.base.specs.Flags.{bit}
 use Rattle.packet_spec.specs.Limits.{level}
 use Rattle.packet.specs.Refusal.{outcomeNumber}
 use Rattle.packet_spec.specs.Header.{Expected, Any, Only, payloadEnd}
-use Rattle.packet_spec.specs.Redundancy.{Block}
 use Rattle.packet_spec.specs.Reading.{Content, Read, holds, refused, reading, startsAt}
 
 -- the source that is expected, in the terms of the definition
@@ -30,45 +25,28 @@ pub record ReadResult : Type 0 where
 abbrev pub numbered : Reading → ReadResult
 numbered r = record { number = outcomeNumber (r .outcome); packet = r .packet }
 
-abbrev pub none : Older
-none = record { offset = 0; at = 0; len = 0 }
+abbrev pub zeroPacket : Packet
+zeroPacket = record { marker = 0; sequence = 0; timestamp = 0; source = 0; count = 0; first = 0; primary = 0; end = 0 }
 
-abbrev pub zeroPacket : ℕ → Packet
-zeroPacket n = record { marker = 0; sequence = 0; timestamp = 0; source = 0; count = 0; older = filled none n []; primary = 0; end = 0 }
-
--- blocks lie one behind the other
-abbrev pub placesFrom : ℕ → List Block → List Older
-placesFrom at [] = []
-placesFrom at (b ∷ bs) = record { offset = b .offset; at = at; len = length (b .bytes) } ∷ placesFrom (at + length (b .bytes)) bs
-
--- the primary goes up to the payload's end
-abbrev pub placed : ℕ → List ℕ → Content → Packet
-placed n p c = record {
+-- the older blocks lie one behind the other, and the primary goes up to the payload's end
+abbrev pub placed : List ℕ → Content → Packet
+placed p c = record {
   marker = bit (c .marker);
   sequence = c .sequence;
   timestamp = c .timestamp;
   source = c .source;
   count = length (c .older);
-  older = filled none n (placesFrom (startsAt p c 0) (c .older));
+  first = startsAt p c 0;
   primary = payloadEnd p - length (c .primary);
   end = payloadEnd p;
 }
 
-abbrev pub refusedAnswer : ℕ → ℕ → ReadResult
-refusedAnswer n k = record { number = k; packet = zeroPacket n }
+abbrev pub refusedAnswer : ℕ → ReadResult
+refusedAnswer k = record { number = k; packet = zeroPacket }
 
-abbrev pub answer : ℕ → List ℕ → Read → ReadResult
-answer n p (refused k) = refusedAnswer n k
-answer n p (holds c) = record { number = 0; packet = placed n p c }
+abbrev pub answer : List ℕ → Read → ReadResult
+answer p (refused k) = refusedAnswer k
+answer p (holds c) = record { number = 0; packet = placed p c }
 
 unfoldable pub readOf : Expected → ℕ → ℕ → List ℕ → ReadResult
-readOf expected t140 red p = answer level p (reading level expected t140 red p)
-
--- where block k starts: the older blocks, then the primary; behind it, the end
-abbrev pub startOf : Packet → ℕ → ℕ
-startOf packet k =
-    cond (ltb k (packet .count)) (getD (packet .older) k none .at)
-    (cond (eqb k (packet .count)) (packet .primary) (packet .end))
-
-abbrev pub blockOf : List ℕ → Packet → ℕ → List ℕ
-blockOf p packet k = cond (ltb level k) [] (part (startOf packet k) (startOf packet (k + 1)) p)
+readOf expected t140 red p = answer p (reading level expected t140 red p)

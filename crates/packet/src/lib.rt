@@ -1,10 +1,8 @@
 // A packet of an RTP text line as the reader hands it over: its fields, the places of its blocks, or its refusal.
 ghost use mathlib.Core.Path.{_≡_};
-ghost use lib.ListN.{getD};
 ghost use Rattle.base.specs.Arrays as Arrays;
-ghost use Rattle.packet_spec.specs.Limits.{level};
 ghost use Rattle.packet.specs.Refusal.{number, isRefused};
-ghost use Rattle.packet.specs.Places.{numbered, refusedAnswer, none, startOf, blockOf};
+ghost use Rattle.packet.specs.Places.{numbered, refusedAnswer};
 
 // The refusals of 01 and 02, in the order of their numbers.
 pub enum Refusal {
@@ -88,23 +86,15 @@ pub enum Expected {
     Only(u32),
 }
 
-// An older block: its time offset, and where it lies in the packet.
-#[repr(C)]
-pub struct Older {
-    pub offset: u16,
-    pub at: usize,
-    pub len: usize,
-}
-
-// What an accepted packet holds: the M bit, 0 or 1, its older blocks, oldest first, and the primary from `primary` up to `end`.
-#[repr(C)]
+// What an accepted packet holds: the M bit, 0 or 1, so many older blocks, oldest first, from `first` on, and the primary from
+// `primary` up to `end`. Where an older block ends is told by its header alone, in the packet's bytes.
 pub struct Packet {
     pub marker: u8,
     pub sequence: u16,
     pub timestamp: u32,
     pub source: u32,
     pub count: usize,
-    pub older: [Older; Packet::LEVEL],
+    pub first: usize,
     pub primary: usize,
     pub end: usize,
 }
@@ -116,31 +106,6 @@ impl Packet {
     pub const SHORTEST: usize = 12;
 
     pub const LONGEST: usize = 1472;
-
-    // Where block k starts: older blocks from 0 on, oldest first, then the primary; behind it, the end.
-    pub fn start_of(self, k: usize) -> usize
-        ensures { λ r. ⌜ r ≡ startOf self k ⌝ }
-    {
-        let count = self.count;
-        if k < count {
-            let older = self.older;
-            return older_start(older, k);
-        }
-        if k == count {
-            return self.primary;
-        }
-        self.end
-    }
-}
-
-fn older_start(older: [Older; Packet::LEVEL], k: usize) -> usize
-    ensures { λ r. ⌜ r ≡ getD older k none .at ⌝ }
-{
-    if k < Packet::LEVEL {
-        let block = older[k];
-        return block.at;
-    }
-    0
 }
 
 // The bytes from one place up to another; nothing where these do not lie within the bytes.
@@ -156,18 +121,6 @@ pub fn part(bytes: &[u8], from: usize, to: usize) -> &[u8]
     &bytes[from..to]
 }
 
-// One block; nothing behind the primary.
-pub fn block(bytes: &[u8], packet: Packet, k: usize) -> &[u8]
-    ensures { λ r. ⌜ now r ≡ blockOf (now (bytes .entry)) packet k ⌝ }
-{
-    if Packet::LEVEL < k {
-        return &bytes[..0];
-    }
-    let from = packet.start_of(k);
-    let to = packet.start_of(k + 1);
-    part(bytes, from, to)
-}
-
 // The outcome, and the packet; all zeros where it is refused.
 pub struct Reading {
     pub outcome: Outcome,
@@ -176,13 +129,8 @@ pub struct Reading {
 
 impl Reading {
     pub fn refused(refusal: Refusal) -> Reading
-        ensures { λ r. ⌜ numbered r ≡ refusedAnswer level (number refusal) ⌝ }
+        ensures { λ r. ⌜ numbered r ≡ refusedAnswer (number refusal) ⌝ }
     {
-        let none = Older {
-            offset: 0,
-            at: 0,
-            len: 0,
-        };
         Reading {
             outcome: Outcome::Refused(refusal),
             packet: Packet {
@@ -191,7 +139,7 @@ impl Reading {
                 timestamp: 0,
                 source: 0,
                 count: 0,
-                older: [none; Packet::LEVEL],
+                first: 0,
                 primary: 0,
                 end: 0,
             },

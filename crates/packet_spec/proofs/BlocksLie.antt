@@ -105,14 +105,14 @@ module _ (n : ℕ) (expected : Expected) (t140 red : ℕ) (p : List ℕ) (c : Co
       let h : headerEnd p ≤ payloadEnd p = payload-inside p (a .checks .1 .1 .1 .1 .0) (a .checks .1 .1 .1 .1 .1 .0) in
       let i : payloadEnd p ≤ length p = omega arith in
       let lm : length m ≡ payloadEnd p - headerEnd p = length-slice (headerEnd p) (payloadEnd p) p i in
-      let ls : length s ≡ length m - a .from = ap length (a .behind) ∙ length-drop (a .from) m in
+      let ls : length s ≡ length m - a .cut .from = ap length (a .cut .behind) ∙ length-drop (a .cut .from) m in
       let lj : length (joined (blocks k)) ≡ length s = ap length (cut-joined hs s) in
-      let se : length s ≤ payloadEnd p = within-end (length s) (length m) (a .from) (payloadEnd p) (headerEnd p) ls lm in
+      let se : length s ≤ payloadEnd p = within-end (length s) (length m) (a .cut .from) (payloadEnd p) (headerEnd p) ls lm in
       let fill : slice (startsAt p k 0) (payloadEnd p) p ≡ joined (blocks k) =
       ap (λ (j : ℕ). slice (payloadEnd p - j) (payloadEnd p) p) lj
-      ∙ ap (λ (l : List ℕ). slice (payloadEnd p - length l) (payloadEnd p) p) (a .behind)
-      ∙ slice-end (headerEnd p) (payloadEnd p) p (a .from) h i
-      ∙ sym (a .behind)
+      ∙ ap (λ (l : List ℕ). slice (payloadEnd p - length l) (payloadEnd p) p) (a .cut .behind)
+      ∙ slice-end (headerEnd p) (payloadEnd p) p (a .cut .from) h i
+      ∙ sym (a .cut .behind)
       ∙ sym (cut-joined hs s) in
       subst (Lies p) (sym (a .is)) (record { inside = i; room = omega arith; fill = fill })
 
@@ -124,7 +124,7 @@ module _ (n : ℕ) (expected : Expected) (t140 red : ℕ) (p : List ℕ) (c : Co
   ages-fall = let a = is-accepted in ap (λ (k : Content). falling (offsets (k .older))) (a .is) ∙ ap falling (older-offsets (a .hs) (a .s)) ∙ a .ages
 
   pub few : length (c .older) ≤ n
-  few = let a = is-accepted in omega (arith, ap (λ (k : Content). length (k .older)) (a .is) ∙ older-length (a .hs) (a .s), a .few)
+  few = let a = is-accepted in omega (arith, ap (λ (k : Content). length (k .older)) (a .is) ∙ older-length (a .hs) (a .s), a .cut .few)
 
   pub long : length p ≤ longest
   long = ltb-false longest (length p) (is-accepted .checks .1 .1 .0)

@@ -2,10 +2,12 @@ pub mod Limits
 pub mod Payload
 pub mod Falling
 pub mod HeadersByFacts
+pub mod HeadsIn
 pub mod CheckOrder
 pub mod Accepted
 pub mod BlockRuns
 pub mod BlocksLie
+pub mod HeadersTell
 pub mod RefusalNumbers
 pub mod ReadBack
 pub mod LastHeader

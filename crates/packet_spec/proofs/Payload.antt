@@ -7,8 +7,8 @@ use native.Mathlib.Omega.{arith}
 use lib.Dec.{ltb, eqb}
 use lib.ListN.{length, getD}
 use borrow.Author.Tests.{ltb-false}
-use Rattle.packet_spec.specs.Header.{paddingBit, headerEnd, padding, paddingBad, payloadEnd}
-use Rattle.base.proofs.Tests.{or-right}
+use Rattle.packet_spec.specs.Header.{extensionBit, paddingBit, headerEnd, padding, paddingBad, payloadEnd}
+use Rattle.base.proofs.Tests.{by-test, or-right}
 
 -- a payload that passes 13 and 14 lies within the packet
 pub payload-inside : (p : List ℕ) → ltb (length p) (headerEnd p) ≡ false → paddingBad p ≡ false → headerEnd p ≤ payloadEnd p
@@ -26,3 +26,7 @@ payload-inside p h k = go (eqb (paddingBit p) 0) refl
         ltb-false (length p - headerEnd p) (getD p (length p - 1) 0)
         (or-right (eqb (length p) (headerEnd p) || eqb (getD p (length p - 1) 0) 0) (ltb (length p - headerEnd p) (getD p (length p - 1) 0)) (rw e at k)) in
         omega arith
+
+-- the fixed fields stand before the payload
+pub header-long : (p : List ℕ) → 12 ≤ headerEnd p
+header-long p = by-test (λ (n : ℕ). 12 ≤ n) (eqb (extensionBit p) 0) (λ _. omega arith) (λ _. omega arith)

@@ -13,14 +13,14 @@ use Rattle.packet_spec.proofs.RefusalNumbers.{Positive}
 use Rattle.packet.proofs.Names.{number-positive}
 
 -- the answer to a reading, by its outcome
-module _ (n : ℕ) (p : List ℕ) (x : Reading) where
-  pub was-refused : (k : Refusal) (r : Read) → x .outcome ≡ Refused k → numbered x ≡ answer n p r → r ≡ refused (number k)
+module _ (p : List ℕ) (x : Reading) where
+  pub was-refused : (k : Refusal) (r : Read) → x .outcome ≡ Refused k → numbered x ≡ answer p r → r ≡ refused (number k)
   was-refused k (refused j) o e = ap refused (sym (ap (λ (a : ReadResult). a .number) e) ∙ ap outcomeNumber o)
   was-refused k (holds c) o e =
       let z : number k ≡ 0 = sym (ap outcomeNumber o) ∙ ap (λ (a : ReadResult). a .number) e in
       absurd (omega (arith, number-positive k))
 
-  pub was-accepted : (r : Read) → Positive r → x .outcome ≡ Accepted → numbered x ≡ answer n p r → (c : Content) × (r ≡ holds c) × (x .packet ≡ placed n p c)
+  pub was-accepted : (r : Read) → Positive r → x .outcome ≡ Accepted → numbered x ≡ answer p r → (c : Content) × (r ≡ holds c) × (x .packet ≡ placed p c)
   was-accepted (refused j) h o e =
       let z : 0 ≡ j = sym (ap outcomeNumber o) ∙ ap (λ (a : ReadResult). a .number) e in
       absurd (omega arith)

@@ -1,24 +1,19 @@
 -- The reading by what is seen of the header and of the blocks.
-use Prim.Native.Nat.{ℕ, suc, _+_, _-_, _≤_}
+use Prim.Native.Nat.{ℕ, _+_, _-_, _≤_}
 use mathlib.Core.Path.{_≡_, _∙_, refl, ap, sym, subst}
-use mathlib.Core.List.{List, [], _∷_}
-use mathlib.Core.Bool.{false}
+use mathlib.Core.List.{List}
 use native.Mathlib.Omega.{arith}
 use lib.Dec.{ltb, eqb}
-use lib.ListN.{length, take, drop, length-drop}
-use lib.Seq.{length-take-le}
+use lib.ListN.{length, length-drop}
 use borrow.Author.Needs.{needs}
 use borrow.Author.Tests.{ltb-false}
-use Rattle.packet.specs.declared.Older.{Older}
 use Rattle.packet.specs.declared.Packet.{Packet}
-use Rattle.base.specs.Arrays.{filled}
 use Rattle.packet_spec.specs.Limits.{level}
 use Rattle.packet_spec.specs.Header.{Expected, payloadType, headerEnd, payloadEnd, payload, paddingBad, markerOf, sequenceOf, timestampOf, sourceOf}
-use Rattle.packet_spec.specs.Redundancy.{Head, Heads, heads, bad, total, olderOf, primaryOf, joined}
+use Rattle.packet_spec.specs.Redundancy.{Head, Heads, heads, bad, total, primaryOf, joined}
 use Rattle.packet_spec.specs.Reading.{Content, holds, refused, headerChecks, headsOf, content, blockChecks, blocksRead, reading, blocks}
-use Rattle.packet.specs.Places.{ReadResult, none, placesFrom, placed, refusedAnswer, answer, readOf}
+use Rattle.packet.specs.Places.{placed, refusedAnswer, answer, readOf}
 use Rattle.header.specs.internal.Seen.{HeaderSeen, refusedHeader, passedHeader, headerOf}
-use Rattle.blocks.specs.internal.Placing.{headPlaces}
 use Rattle.blocks.specs.internal.Seen as seen
 use Rattle.blocks.specs.internal.Seen.{refusedBlocks, placedBlocks, seenBehind, blocksSeenAt}
 use Rattle.base.specs.Checks.{numberBy}
@@ -30,14 +25,6 @@ use Rattle.packet_spec.proofs.BlockRuns.{cut-joined}
 use Rattle.packet_spec.proofs.BlocksLie.{older-length, lies}
 use Rattle.blocks.proofs.SeenByFacts.{inside}
 
-older-places : (at : ℕ) (hs : List Head) (s : List ℕ) → total hs ≤ length s → placesFrom at (olderOf hs s) ≡ headPlaces at hs
-older-places at [] s f = refl
-older-places at (h ∷ hs) s f =
-    let d : length (drop (h .len) s) ≡ length s - h .len = length-drop (h .len) s in
-    let n : length (take (h .len) s) ≡ h .len = length-take-le (h .len) s (omega arith) in
-    ap (λ (k : ℕ). record { offset = h .offset; at = at; len = k } ∷ placesFrom (at + k) (olderOf hs (drop (h .len) s))) n
-    ∙ ap (λ (l : List Older). record { offset = h .offset; at = at; len = h .len } ∷ l) (older-places (at + h .len) hs (drop (h .len) s) (omega arith))
-
 -- the packet by what is seen of its blocks
 abbrev withBlocks : List ℕ → seen.BlocksSeen → Packet
 withBlocks p b = record {
@@ -46,13 +33,13 @@ withBlocks p b = record {
   timestamp = timestampOf p;
   source = sourceOf p;
   count = b .count;
-  older = b .older;
+  first = b .first;
   primary = b .primary;
   end = payloadEnd p;
 }
 
 placed-is : (p : List ℕ) (hs : List Head) (s : List ℕ) → total hs ≤ length s → length s ≤ payloadEnd p
-    → withBlocks p (placedBlocks (payloadEnd p) hs s) ≡ placed level p (content p hs s)
+    → withBlocks p (placedBlocks (payloadEnd p) hs s) ≡ placed p (content p hs s)
 placed-is p hs s fit room =
     let c = content p hs s in
     let e = payloadEnd p in
@@ -65,7 +52,7 @@ placed-is p hs s fit room =
       timestamp = timestampOf p;
       source = sourceOf p;
       count = sym (older-length hs s) i;
-      older = filled none level ((sym (older-places (e - length s) hs s fit) ∙ ap (λ (k : ℕ). placesFrom k (olderOf hs s)) f) i);
+      first = f i;
       primary = q i;
       end = e;
     }
@@ -75,13 +62,13 @@ blocks-first p hs s = number-first (λ (b : seen.BlocksSeen). b .number) refused
 
 -- the blocks behind the headers
 module _ (p : List ℕ) where
-  seen-refused : (h : Heads) (n : ℕ) → 1 ≤ n → seenBehind (payloadEnd p) h .number ≡ n → refusedAnswer level n ≡ answer level p (blocksRead p h)
-  seen-refused (bad k) n l e = ap (refusedAnswer level) (sym e)
+  seen-refused : (h : Heads) (n : ℕ) → 1 ≤ n → seenBehind (payloadEnd p) h .number ≡ n → refusedAnswer n ≡ answer p (blocksRead p h)
+  seen-refused (bad k) n l e = ap refusedAnswer (sym e)
   seen-refused (heads hs s) n l e =
-      ap (answer level p) (sym (refused-by refused (blockChecks hs s) (holds (content p hs s)) n l (sym (blocks-first p hs s) ∙ e)))
+      ap (answer p) (sym (refused-by refused (blockChecks hs s) (holds (content p hs s)) n l (sym (blocks-first p hs s) ∙ e)))
 
   seen-placed : (h : Heads) → Positive (blocksRead p h) → ((c : Content) → blocksRead p h ≡ holds c → length (joined (blocks c)) ≤ payloadEnd p) → seenBehind (payloadEnd p) h .number ≡ 0
-      → record { number = 0; packet = withBlocks p (seenBehind (payloadEnd p) h) } ≡ answer level p (blocksRead p h)
+      → record { number = 0; packet = withBlocks p (seenBehind (payloadEnd p) h) } ≡ answer p (blocksRead p h)
   seen-placed (bad k) positive room e = absurd (omega arith)
   seen-placed (heads hs s) positive room e =
       let z : numberBy (blockChecks hs s) ≡ 0 = sym (blocks-first p hs s) ∙ e in
@@ -91,17 +78,17 @@ module _ (p : List ℕ) where
       let r : length (joined (blocks (content p hs s))) ≤ payloadEnd p = room (content p hs s) held in
       ap (λ (x : seen.BlocksSeen). record { number = 0; packet = withBlocks p x }) (passed-by refusedBlocks (blockChecks hs s) (placedBlocks (payloadEnd p) hs s) (search needs) z)
       ∙ ap (λ (k : Packet). record { number = 0; packet = k }) (placed-is p hs s fit (omega arith))
-      ∙ ap (answer level p) (sym held)
+      ∙ ap (answer p) (sym held)
 
 module _ (e : Expected) (t140 red : ℕ) (p : List ℕ) where
   header-first : headerOf e t140 red p .number ≡ numberBy (headerChecks e t140 red p)
   unfolding headerOf
   header-first = number-first (λ (h : HeaderSeen). h .number) refusedHeader (headerChecks e t140 red p) (passedHeader t140 p) (λ n. refl) refl
 
-  pub header-refused : (n : ℕ) → 1 ≤ n → headerOf e t140 red p .number ≡ n → refusedAnswer level n ≡ readOf e t140 red p
+  pub header-refused : (n : ℕ) → 1 ≤ n → headerOf e t140 red p .number ≡ n → refusedAnswer n ≡ readOf e t140 red p
   unfolding readOf reading
   header-refused n l h =
-      ap (answer level p) (sym (refused-by refused (headerChecks e t140 red p) (blocksRead p (headsOf level t140 p)) n l (sym header-first ∙ h)))
+      ap (answer p) (sym (refused-by refused (headerChecks e t140 red p) (blocksRead p (headsOf level t140 p)) n l (sym header-first ∙ h)))
 
   module _ (passed : headerOf e t140 red p .number ≡ 0) where
     no-check : numberBy (headerChecks e t140 red p) ≡ 0
@@ -124,11 +111,11 @@ module _ (e : Expected) (t140 red : ℕ) (p : List ℕ) where
     unfolding reading
     read = passed-by refused (headerChecks e t140 red p) (blocksRead p (headsOf level t140 p)) (search needs) no-check
 
-    answered : readOf e t140 red p ≡ answer level p (blocksRead p (headsOf level t140 p))
+    answered : readOf e t140 red p ≡ answer p (blocksRead p (headsOf level t140 p))
     unfolding readOf
-    answered = ap (answer level p) read
+    answered = ap (answer p) read
 
-    pub blocks-refused : (n : ℕ) → 1 ≤ n → blocksSeen .number ≡ n → refusedAnswer level n ≡ readOf e t140 red p
+    pub blocks-refused : (n : ℕ) → 1 ≤ n → blocksSeen .number ≡ n → refusedAnswer n ≡ readOf e t140 red p
     blocks-refused n l h = seen-refused p (headsOf level t140 p) n l (ap (λ (b : seen.BlocksSeen). b .number) (sym behind) ∙ h) ∙ sym answered
 
     pub blocks-placed : blocksSeen .number ≡ 0 → record { number = 0; packet = withBlocks p blocksSeen } ≡ readOf e t140 red p

@@ -22,7 +22,6 @@ pub fn read_from(expected: Expected, t140: u8, red: u8, packet: &[u8]) -> Readin
     match outcome {
         Outcome::Refused(refusal) => Reading::refused(refusal),
         Outcome::Accepted => {
-            let older = blocks.older;
             let marker = numbers::byte_of(header.marker);
             Reading {
                 outcome: Outcome::Accepted,
@@ -32,7 +31,7 @@ pub fn read_from(expected: Expected, t140: u8, red: u8, packet: &[u8]) -> Readin
                     timestamp: header.timestamp,
                     source: header.source,
                     count: blocks.count,
-                    older,
+                    first: blocks.first,
                     primary: blocks.primary,
                     end: header.end,
                 },

@@ -16,7 +16,8 @@ use Rattle.packet_spec.specs.Header.{payloadEnd}
 use Rattle.packet_spec.specs.Redundancy.{joined}
 use Rattle.packet_spec.specs.Reading.{Content, holds, reading, blocks, startsAt}
 use Rattle.packet.specs.Refusal.{number}
-use Rattle.packet.specs.Places.{numbered, placed, startOf, readOf}
+use Rattle.packet.specs.Places.{numbered, placed, readOf}
+use Rattle.blocks.specs.Places.{startOf}
 use Rattle.delivery.specs.Course.{Course, forward, late, jump, break, distance, courseOf, isKept, courseAt, wanted, loss}
 use Rattle.delivery.specs.Record.{lastOf}
 use Rattle.receiver_spec.specs.State.{Receiver, keptBy, withKept, sourceExpected}
@@ -28,28 +29,29 @@ use Rattle.receiver.specs.internal.Read.{readStep, readGiven}
 use Rattle.packet_spec.proofs.RefusalNumbers.{reading-positive}
 use Rattle.packet_spec.proofs.BlockRuns.{reach, joined-split}
 use Rattle.packet_spec.proofs.BlocksLie.{Lies, lies, few, blocks-length}
-use Rattle.packet.proofs.Laws.{start-at}
+use Rattle.packet_spec.proofs.HeadersTell.{Headed, headed}
+use Rattle.blocks.proofs.BlockPlaces.{start-at}
 use Rattle.reader.proofs.AnswerToReading.{was-refused, was-accepted}
 
-module _ (r : Receiver) (k : Packet) where
-  pub later-step : r .hasSource ≡ true → laterAccepted r k (distance (k .sequence) (r .expected)) ≡ acceptedStep r k
-  later-step e = sym (ap (λ (h : Bool). cond h (laterAccepted r k (distance (k .sequence) (r .expected))) (followed r k 0 (pos 0) (k .count))) e)
+module _ (r : Receiver) (p : List ℕ) (k : Packet) where
+  pub later-step : r .hasSource ≡ true → laterAccepted r p k (distance (k .sequence) (r .expected)) ≡ acceptedStep r p k
+  later-step e = sym (ap (λ (h : Bool). cond h (laterAccepted r p k (distance (k .sequence) (r .expected))) (followed r p k 0 (pos 0) (k .count))) e)
 
-  pub first-step : r .hasSource ≡ false → followed r k 0 (pos 0) (k .count) ≡ acceptedStep r k
-  first-step e = sym (ap (λ (h : Bool). cond h (laterAccepted r k (distance (k .sequence) (r .expected))) (followed r k 0 (pos 0) (k .count))) e)
+  pub first-step : r .hasSource ≡ false → followed r p k 0 (pos 0) (k .count) ≡ acceptedStep r p k
+  first-step e = sym (ap (λ (h : Bool). cond h (laterAccepted r p k (distance (k .sequence) (r .expected))) (followed r p k 0 (pos 0) (k .count))) e)
 
   -- far from the expected number: a break or a jump
-  pub leapt-step : (d : ℕ) → courseOf d (isKept (keptBy r) (k .sequence)) ≡ cond (isKept (keptBy r) (k .sequence)) break jump → leapt r k (signed d) ≡ laterAccepted r k d
-  leapt-step d v = go (isKept (keptBy r) (k .sequence)) ∙ sym (ap (λ (c : Course). laterBy c r k d) v)
+  pub leapt-step : (d : ℕ) → courseOf d (isKept (keptBy r) (k .sequence)) ≡ cond (isKept (keptBy r) (k .sequence)) break jump → leapt r k (signed d) ≡ laterAccepted r p k d
+  leapt-step d v = go (isKept (keptBy r) (k .sequence)) ∙ sym (ap (λ (c : Course). laterBy c r p k d) v)
     where
-      go : (b : Bool) → cond b (broken r k) (jumped r k (signed d)) ≡ laterBy (cond b break jump) r k d
+      go : (b : Bool) → cond b (broken r k) (jumped r k (signed d)) ≡ laterBy (cond b break jump) r p k d
       go true = refl
       go false = refl
 
 -- over the places of a content
-module _ (r : Receiver) (p : List ℕ) (c : Content) (l : Lies p c) where
+module _ (r : Receiver) (p : List ℕ) (c : Content) (l : Lies p c) (t : Headed p c) where
   -- the last w older blocks start where their bytes and the primary's reach back to
-  starts : (w : ℕ) → w ≤ length (c .older) → startOf (placed level p c) (length (c .older) - w) ≡ payloadEnd p - length (joined (lastOf (suc w) (blocks c)))
+  starts : (w : ℕ) → w ≤ length (c .older) → startOf p (placed p c) (length (c .older) - w) ≡ payloadEnd p - length (joined (lastOf (suc w) (blocks c)))
   starts w h =
       let bs = blocks c in
       let n = length (c .older) in
@@ -58,19 +60,19 @@ module _ (r : Receiver) (p : List ℕ) (c : Content) (l : Lies p c) where
       let s : length (joined bs) ≡ reach bs (n - w) + length (joined (drop (n - w) bs)) = ap length (joined-split (n - w) bs) ∙ length-append (joined (take (n - w) bs)) (joined (drop (n - w) bs)) in
       let room : length (joined bs) ≤ payloadEnd p = l .room in
       let f : startsAt p c 0 + reach bs (n - w) ≡ payloadEnd p - length (joined (drop (n - w) bs)) = omega arith in
-      start-at level p c l (n - w) (omega arith) ∙ f ∙ ap (λ (i : ℕ). payloadEnd p - length (joined (drop i bs))) (sym k)
+      start-at p c l t (n - w) (omega arith) ∙ f ∙ ap (λ (i : ℕ). payloadEnd p - length (joined (drop i bs))) (sym k)
 
-  follows : (marks : ℕ) (z : ℤ) (w : ℕ) → w ≤ length (c .older) → followed r (placed level p c) marks z w ≡ record { receiver = movedTo r (c .source) (c .sequence); answer = gives (givenFrom p c marks z w) }
+  follows : (marks : ℕ) (z : ℤ) (w : ℕ) → w ≤ length (c .older) → followed r p (placed p c) marks z w ≡ record { receiver = movedTo r (c .source) (c .sequence); answer = gives (givenFrom p c marks z w) }
   follows marks z w h = ap (λ (from : ℕ). record { receiver = movedTo r (c .source) (c .sequence); answer = gives (record { loss = marks; distance = z; older = length (c .older); given = suc w; from = from; to = payloadEnd p }) }) (starts w h)
 
-  breaks : broken r (placed level p c) ≡ record { receiver = movedTo r (c .source) (c .sequence); answer = isBreak (allOf p c) }
+  breaks : broken r (placed p c) ≡ record { receiver = movedTo r (c .source) (c .sequence); answer = isBreak (allOf p c) }
   breaks =
       let n = length (c .older) in
       let none : n - n ≡ 0 = omega arith in
       ap (λ (from : ℕ). record { receiver = movedTo r (c .source) (c .sequence); answer = isBreak (record { loss = 0; distance = pos 0; older = n; given = suc n; from = from; to = payloadEnd p }) })
-      (ap (startOf (placed level p c)) (sym none) ∙ starts n (omega arith))
+      (ap (startOf p (placed p c)) (sym none) ∙ starts n (omega arith))
 
-  same-step : acceptedStep r (placed level p c) ≡ stepRead r p (holds c)
+  same-step : acceptedStep r p (placed p c) ≡ stepRead r p (holds c)
   same-step = by (r .hasSource) (courseAt (r .expected) (keptBy r) (c .sequence))
     where
       d : ℕ
@@ -79,7 +81,7 @@ module _ (r : Receiver) (p : List ℕ) (c : Content) (l : Lies p c) where
       n : ℕ
       n = length (c .older)
 
-      by : (h : Bool) (v : Course) → cond h (laterBy v r (placed level p c) d) (followed r (placed level p c) 0 (pos 0) n) ≡ cond h (stepBy v r p c d) (firstStep r p c)
+      by : (h : Bool) (v : Course) → cond h (laterBy v r p (placed p c) d) (followed r p (placed p c) 0 (pos 0) n) ≡ cond h (stepBy v r p c d) (firstStep r p c)
       by true forward = follows (loss d n) (signed d) (wanted d n) (omega arith)
       by true late = refl
       by true jump = refl
@@ -87,7 +89,7 @@ module _ (r : Receiver) (p : List ℕ) (c : Content) (l : Lies p c) where
       by false v = follows 0 (pos 0) n (omega arith)
 
   -- and one that goes by its distance alone
-  gives-step : gaveStep r (placed level p c) ≡ record {
+  gives-step : gaveStep r p (placed p c) ≡ record {
     receiver = withKept (movedTo r (c .source) (c .sequence)) (r .hasKept) (r .kept);
     answer = gives (givenAt p c (distance (c .sequence) (r .expected)));
   }
@@ -98,10 +100,10 @@ module _ (r : Receiver) (p : List ℕ) (c : Content) (l : Lies p c) where
 
   -- a packet that was read before
   module _ (small : length (c .older) ≤ level) where
-    pub read-step : readStep r (placed level p c) ≡ stepRead r p (holds c)
+    pub read-step : readStep r p (placed p c) ≡ stepRead r p (holds c)
     read-step = rw (le-ltb level (length (c .older)) small) same-step
 
-    pub read-given : readGiven r (placed level p c) ≡ record {
+    pub read-given : readGiven r p (placed p c) ≡ record {
       receiver = withKept (movedTo r (c .source) (c .sequence)) (r .hasKept) (r .kept);
       answer = gives (givenAt p c (distance (c .sequence) (r .expected)));
     }
@@ -110,12 +112,12 @@ module _ (r : Receiver) (p : List ℕ) (c : Content) (l : Lies p c) where
 module _ (r : Receiver) (p : List ℕ) (x : Reading) (e : numbered x ≡ readOf (sourceExpected r) (r .t140) (r .red) p) where
   pub refused-step : (k : Refusal) → x .outcome ≡ Refused k → record { receiver = r; answer = refuses (number k) } ≡ stepOf r p
   unfolding readOf stepOf
-  refused-step k o = sym (ap (stepRead r p) (was-refused level p x k (reading level (sourceExpected r) (r .t140) (r .red) p) o e))
+  refused-step k o = sym (ap (stepRead r p) (was-refused p x k (reading level (sourceExpected r) (r .t140) (r .red) p) o e))
 
-  pub was-read : x .outcome ≡ Accepted → (c : Content) × (reading level (sourceExpected r) (r .t140) (r .red) p ≡ holds c) × (x .packet ≡ placed level p c)
+  pub was-read : x .outcome ≡ Accepted → (c : Content) × (reading level (sourceExpected r) (r .t140) (r .red) p ≡ holds c) × (x .packet ≡ placed p c)
   unfolding readOf
   was-read o =
-      was-accepted level p x (reading level (sourceExpected r) (r .t140) (r .red) p)
+      was-accepted p x (reading level (sourceExpected r) (r .t140) (r .red) p)
       (reading-positive level (sourceExpected r) (r .t140) (r .red) p) o e
 
   pub few-older : x .outcome ≡ Accepted → x .packet .count ≤ level
@@ -123,8 +125,10 @@ module _ (r : Receiver) (p : List ℕ) (x : Reading) (e : numbered x ≡ readOf 
       let h = was-read o in
       omega (arith, ap (λ (k : Packet). k .count) (h .2), few level (sourceExpected r) (r .t140) (r .red) p (h .0) (h .1))
 
-  pub accepted-step : x .outcome ≡ Accepted → acceptedStep r (x .packet) ≡ stepOf r p
+  pub accepted-step : x .outcome ≡ Accepted → acceptedStep r p (x .packet) ≡ stepOf r p
   unfolding stepOf
   accepted-step o =
       let h = was-read o in
-      ap (acceptedStep r) (h .2) ∙ same-step r p (h .0) (lies level (sourceExpected r) (r .t140) (r .red) p (h .0) (h .1)) ∙ sym (ap (stepRead r p) (h .1))
+      ap (acceptedStep r p) (h .2)
+      ∙ same-step r p (h .0) (lies level (sourceExpected r) (r .t140) (r .red) p (h .0) (h .1)) (headed level (sourceExpected r) (r .t140) (r .red) p (h .0) (h .1))
+      ∙ sym (ap (stepRead r p) (h .1))

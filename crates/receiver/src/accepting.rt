@@ -75,13 +75,20 @@ fn moved(receiver: Receiver, source: u32, sequence: u16) -> Receiver
 }
 
 // A forward packet: its last `wanted` older blocks and its primary are given.
-fn follow(receiver: Receiver, packet: Packet, loss: u16, distance: i16, wanted: usize) -> Advanced
+fn follow(
+    receiver: Receiver,
+    bytes: &[u8],
+    packet: Packet,
+    loss: u16,
+    distance: i16,
+    wanted: usize,
+) -> Advanced
     requires { ⌜ (wanted ≤ packet .count) × (packet .count ≤ level) ⌝ }
-    ensures { λ r. ⌜ advanced r ≡ followed (receiverOf receiver) packet loss distance wanted ⌝ }
+    ensures { λ r. ⌜ advanced r ≡ followed (receiverOf receiver) (now (bytes .entry)) packet loss distance wanted ⌝ }
 {
     let older = packet.count;
     let first = older - wanted;
-    let from = packet.start_of(first);
+    let from = blocks::start_of(bytes, packet, first);
     let given = wanted + 1;
     let receiver = moved(receiver, packet.source, packet.sequence);
     Advanced {
@@ -98,14 +105,14 @@ fn follow(receiver: Receiver, packet: Packet, loss: u16, distance: i16, wanted: 
 }
 
 // The same by its distance: the last min(d, r) older blocks, and marks for what it lacks.
-fn follow_at(receiver: Receiver, packet: Packet, d: u16, distance: i16) -> Advanced
+fn follow_at(receiver: Receiver, bytes: &[u8], packet: Packet, d: u16, distance: i16) -> Advanced
     requires { ⌜ packet .count ≤ level ⌝ }
-    ensures { λ r. ⌜ advanced r ≡ followedAt (receiverOf receiver) packet d distance ⌝ }
+    ensures { λ r. ⌜ advanced r ≡ followedAt (receiverOf receiver) (now (bytes .entry)) packet d distance ⌝ }
 {
     let older = packet.count;
     let loss = loss_of(d, older);
     let wanted = wanted_of(d, older);
-    follow(receiver, packet, loss, distance, wanted)
+    follow(receiver, bytes, packet, loss, distance, wanted)
 }
 
 fn is_kept(receiver: Receiver, sequence: u16) -> bool
@@ -123,7 +130,7 @@ fn leap(receiver: Receiver, packet: Packet, distance: i16) -> Advanced
     ensures { λ r. ⌜ advanced r ≡ leapt (receiverOf receiver) packet distance ⌝ }
 {
     if is_kept(receiver, packet.sequence) {
-        let from = packet.start_of(0);
+        let from = packet.first;
         let older = packet.count;
         let given = older + 1;
         let to = packet.end;
@@ -154,9 +161,9 @@ fn leap(receiver: Receiver, packet: Packet, distance: i16) -> Advanced
 }
 
 // A packet behind the first.
-fn accept_later(receiver: Receiver, packet: Packet) -> Advanced
+fn accept_later(receiver: Receiver, bytes: &[u8], packet: Packet) -> Advanced
     requires { ⌜ packet .count ≤ level ⌝ }
-    ensures { λ r. ⌜ advanced r ≡ laterAccepted (receiverOf receiver) packet (Course.distance (packet .sequence) (receiver .expected)) ⌝ }
+    ensures { λ r. ⌜ advanced r ≡ laterAccepted (receiverOf receiver) (now (bytes .entry)) packet (Course.distance (packet .sequence) (receiver .expected)) ⌝ }
 {
     let d = ahead(packet.sequence, receiver.expected);
     let distance = signed(d);
@@ -172,31 +179,31 @@ fn accept_later(receiver: Receiver, packet: Packet) -> Advanced
     if Receiver::LAST_FORWARD < distance {
         return leap(receiver, packet, distance);
     }
-    follow_at(receiver, packet, d, distance)
+    follow_at(receiver, bytes, packet, d, distance)
 }
 
 // The first packet gives all its blocks.
-pub fn accept(receiver: Receiver, packet: Packet) -> Advanced
+pub fn accept(receiver: Receiver, bytes: &[u8], packet: Packet) -> Advanced
     requires { ⌜ packet .count ≤ level ⌝ }
-    ensures { λ r. ⌜ advanced r ≡ acceptedStep (receiverOf receiver) packet ⌝ }
+    ensures { λ r. ⌜ advanced r ≡ acceptedStep (receiverOf receiver) (now (bytes .entry)) packet ⌝ }
 {
     let has_source = receiver.has_source;
     if has_source {
-        return accept_later(receiver, packet);
+        return accept_later(receiver, bytes, packet);
     }
     let older = packet.count;
-    follow(receiver, packet, 0, 0, older)
+    follow(receiver, bytes, packet, 0, 0, older)
 }
 
 // A packet that goes by its distance alone, as a forward one does; the number kept stays.
-pub fn give(receiver: Receiver, packet: Packet) -> Advanced
+pub fn give(receiver: Receiver, bytes: &[u8], packet: Packet) -> Advanced
     requires { ⌜ packet .count ≤ level ⌝ }
-    ensures { λ r. ⌜ advanced r ≡ gaveStep (receiverOf receiver) packet ⌝ }
+    ensures { λ r. ⌜ advanced r ≡ gaveStep (receiverOf receiver) (now (bytes .entry)) packet ⌝ }
 {
     let sequence = packet.sequence;
     let d = ahead(sequence, receiver.expected);
     let distance = signed(d);
-    let followed = follow_at(receiver, packet, d, distance);
+    let followed = follow_at(receiver, bytes, packet, d, distance);
     let moved = followed.receiver;
     let answer = followed.answer;
     Advanced {

@@ -157,14 +157,14 @@ impl Receiver {
             },
             Outcome::Accepted => {
                 let content = reading.packet;
-                accepting::accept(self, content)
+                accepting::accept(self, packet, content)
             }
         }
     }
 
-    // The step of a packet that was read before.
-    pub fn accept(self, packet: Packet) -> Advanced
-        ensures { λ r. ⌜ advanced r ≡ readStep (receiverOf self) packet ⌝ }
+    // The step of a packet that was read of these bytes before.
+    pub fn accept(self, bytes: &[u8], packet: Packet) -> Advanced
+        ensures { λ r. ⌜ advanced r ≡ readStep (receiverOf self) (now (bytes .entry)) packet ⌝ }
     {
         if Packet::LEVEL < packet.count {
             return Advanced {
@@ -172,12 +172,12 @@ impl Receiver {
                 answer: Answer::Refused(Refusal::BlockCount),
             };
         }
-        accepting::accept(self, packet)
+        accepting::accept(self, bytes, packet)
     }
 
     // The same for one that goes by its distance alone, as a forward one does; the number kept stays.
-    pub fn give(self, packet: Packet) -> Advanced
-        ensures { λ r. ⌜ advanced r ≡ readGiven (receiverOf self) packet ⌝ }
+    pub fn give(self, bytes: &[u8], packet: Packet) -> Advanced
+        ensures { λ r. ⌜ advanced r ≡ readGiven (receiverOf self) (now (bytes .entry)) packet ⌝ }
     {
         if Packet::LEVEL < packet.count {
             return Advanced {
@@ -185,7 +185,7 @@ impl Receiver {
                 answer: Answer::Refused(Refusal::BlockCount),
             };
         }
-        accepting::give(self, packet)
+        accepting::give(self, bytes, packet)
     }
 
     // How far ahead of the expected number a packet is, wrapped; and as a signed number.

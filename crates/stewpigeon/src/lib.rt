@@ -5,10 +5,13 @@ mod sending;
 
 ghost use mathlib.Core.Path.{_≡_};
 ghost use Rattle.text_spec.specs.Utf8.{textOf};
-ghost use Rattle.packet.specs.Places.{readOf};
-ghost use Rattle.boundary.specs.Answers.{expectedOf, packetBehind, textAnswer};
+ghost use Rattle.packet_spec.specs.Limits.{level};
+ghost use Rattle.packet_spec.specs.Reading.{reading};
+ghost use Rattle.boundary.specs.Answers.{expectedOf, textAnswer};
+ghost use Rattle.boundary.specs.Packets.{readNumber, packetBehind};
 use boundary::TextAnswer;
-use packet::Packet;
+use boundary::packets;
+use boundary::packets::PacketRecord;
 
 // Reads a packet: 0, and what it holds is stored in `answer`; or the refusal's number. With `expects` 0 any source is
 // accepted, else only `source`.
@@ -19,9 +22,9 @@ pub extern "C" fn stewpigeon_read(
     t140: u8,
     red: u8,
     packet: &[u8],
-    answer: &mut Packet,
+    answer: &mut PacketRecord,
 ) -> u8
-    ensures { λ r. ⌜ (r ≡ readOf (expectedOf expects source) t140 red (now (packet .entry)) .number) × (now (answer .exit) ≡ packetBehind (readOf (expectedOf expects source) t140 red (now (packet .entry))) (now (answer .entry))) ⌝ }
+    ensures { λ r. ⌜ (r ≡ readNumber (reading level (expectedOf expects source) t140 red (now (packet .entry)))) × (now (answer .exit) ≡ packetBehind (now (packet .entry)) (reading level (expectedOf expects source) t140 red (now (packet .entry))) (now (answer .entry))) ⌝ }
 {
     let expected = boundary::expected_of(expects, source);
     let reading = reader::read_from(expected, t140, red, packet);
@@ -30,7 +33,7 @@ pub extern "C" fn stewpigeon_read(
     if outcome.is_refused() {
         return number;
     }
-    *answer = reading.packet;
+    *answer = packets::record_of(packet, reading.packet);
     number
 }
 

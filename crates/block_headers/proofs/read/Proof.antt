@@ -1,14 +1,12 @@
-use Prim.Native.Nat.{_-_}
+use Prim.Native.Nat.{_+_, _-_}
 use mathlib.Core.Path.{_≡_, _∙_, ap, sym}
-use mathlib.Core.List.{[]}
+use mathlib.Core.Bool.{true}
 use native.Mathlib.Omega.{arith}
 use lib.ListN.{length}
 use lib.Seq.{slice, length-slice}
 use borrow.Author.Needs.{needs}
 use denote.Ref.{now}
-use Rattle.base.specs.Arrays.{filled}
-use Rattle.packet_spec.specs.Limits.{level}
-use Rattle.block_headers.specs.internal.Seen.{seenHead, noHead, seenBefore, headersOf}
+use Rattle.block_headers.specs.internal.Seen.{seenBefore, headersOf}
 use Rattle.block_headers.proofs.HeadersByFacts.{crossed, outside, none-inside, some-inside}
 use Rattle.block_headers.proofs.read.Statement.{statement}
 use Rattle.block_headers.proofs.read.Tie as tie
@@ -33,12 +31,13 @@ returns-2 c =
     ∙ ap (seenBefore (a .end)) (sym (outside (a .plain) (a .t140) (now (a .packet)) (a .from) (a .end) (c .before .before .if1 .left) (c .before .if2 .taken)))
 
 returns-3 : tie.Need-returns-3
-unfolding headersOf level
+unfolding headersOf
 returns-3 c =
     let a = c .before .before .before .before .args in
     let p = now (a .packet) in
     let f : a .from ≡ a .end - length (slice (a .from) (a .end) p) = omega (arith, length-slice (a .from) (a .end) p (c .before .if2 .left)) in
-    (λ i. record { number = 0; count = 0; heads = filled (seenHead noHead) level []; first = f i })
+    let e : a .from ≡ a .end - length (slice (a .from) (a .end) p) + 0 = omega arith in
+    (λ i. record { number = 0; count = 0; first = f i; primary = e i; fall = true })
     ∙ ap (seenBefore (a .end)) (sym (none-inside (a .plain) (a .t140) p (a .from) (a .end) (c .before .before .if1 .left) (c .before .if2 .left) (c .if3 .taken)))
 
 read-headers-requires : tie.Need-read-headers-requires

@@ -1,10 +1,11 @@
 use mathlib.Core.Path.{_∙_, sym}
+use lib.ListN.{drop}
 use lib.Seq.{slice}
 use borrow.Author.Needs.{needs}
 use denote.Ref.{now}
 use Rattle.packet.specs.Refusal.{number}
 use Rattle.packet_spec.specs.Redundancy.{heads, bad}
-use Rattle.block_headers.specs.internal.Seen.{seenHeads}
+use Rattle.packet_spec.specs.internal.Heads.{headsIn}
 use Rattle.block_headers.proofs.AnswerTells.{refused-told, accepted-told}
 use Rattle.blocks.proofs.SeenByFacts.{behind}
 use Rattle.blocks.proofs.read.Statement.{statement}
@@ -24,10 +25,10 @@ enum-told c = search needs
 
 read-blocks-requires : tie.Need-read-blocks-requires
 read-blocks-requires c κs =
-    let q = c .before .before .before in
+    let q = c .before .before in
     let a = q .before .before .args in
-    let t = accepted-told (a .plain) (a .t140) (now (a .packet)) (a .from) (a .end) (q .read .result) (q .read .ensures) (c .before .enum-told .given .1) in
-    (t .1, t .2, t .3)
+    let t = accepted-told (a .plain) (a .t140) (now (a .packet)) (a .from) (a .end) (q .read .result) (q .read .ensures) (c .enum-told .given .1) in
+    (t .room, t .ahead, t .within, t .bytes, t .fall)
 
 returns : tie.Need-returns
 returns c =
@@ -39,12 +40,12 @@ returns c =
 
 returns-2 : tie.Need-returns-2
 returns-2 c =
-    let q = c .before .before .before .before in
+    let q = c .before .before .before in
     let a = q .before .before .args in
     let p = now (a .packet) in
     let r = q .read .result in
     c .read-blocks .ensures
-    ∙ sym (behind (a .plain) (a .t140) p (a .from) (a .end) (heads (seenHeads (r .count) (r .heads)) (slice (r .first) (a .end) p)) (accepted-told (a .plain) (a .t140) p (a .from) (a .end) r (q .read .ensures) (c .before .before .enum-told .given .1) .0))
+    ∙ sym (behind (a .plain) (a .t140) p (a .from) (a .end) (heads (headsIn (r .count) (drop (a .from) p)) (slice (r .first) (a .end) p)) (accepted-told (a .plain) (a .t140) p (a .from) (a .end) r (q .read .ensures) (c .before .enum-told .given .1) .are))
 
 pub read-spec : {M : Type 1} → statement M
 read-spec =

@@ -5,7 +5,6 @@ use mathlib.Core.List.{List, [], _∷_}
 use mathlib.Core.Option.{none}
 use lib.Dec.{ltb}
 use Rattle.base.specs.Checks.{_gives_, numberBy}
-use Rattle.packet_spec.specs.Limits.{level}
 use Rattle.packet_spec.specs.Header.{typesBad}
 use Rattle.packet.specs.Places.{ReadResult, refusedAnswer, answer}
 use Rattle.receiver_spec.specs.State.{Receiver, readBy}
@@ -20,7 +19,7 @@ firstNumber s t = numberBy (typesBad (s .receiver .t140) (s .receiver .red) give
 
 -- the packet lent back, or 27
 abbrev pub readBack : Receiver → ℕ → List ℕ → ReadResult
-readBack r n lent = cond (isNumbered n (readBy r lent)) (answer level lent (readBy r lent)) (refusedAnswer level 27)
+readBack r n lent = cond (isNumbered n (readBy r lent)) (answer lent (readBy r lent)) (refusedAnswer 27)
 
 abbrev pub stepAlone : HoldingReceiver → ℕ → List ℕ → HoldingStep
 stepAlone s t p = arrivesRead s t p none (readBy (s .receiver) p)

@@ -70,11 +70,11 @@ byte-of-requires c κs = search needs
 
 returns-3 : tie.Need-returns-3
 returns-3 c =
-    let q = c .before .before .before .before in
+    let q = c .before .before .before in
     let a = q .before .before .before .before .before .args in
     let h = seen-header (q .before) in
     let b = seen-blocks q in
-    let n = sym (ap (λ (x : blocks.BlocksSeen). x .number) b) ∙ ap outcomeNumber (c .before .before .enum-told2 .given .1) in
+    let n = sym (ap (λ (x : blocks.BlocksSeen). x .number) b) ∙ ap outcomeNumber (c .before .enum-told2 .given .1) in
     let m = c .byte-of .ensures ∙ ap (λ (x : header.HeaderSeen). bit (x .marker)) h in
     (λ i. record {
       number = 0;
@@ -84,7 +84,7 @@ returns-3 c =
         timestamp = h i .timestamp;
         source = h i .source;
         count = b i .count;
-        older = b i .older;
+        first = b i .first;
         primary = b i .primary;
         end = h i .end;
       };

@@ -9,7 +9,7 @@ use Rattle.base.specs.Every.{Every}
 use Rattle.base.proofs.Slices.{mid-slice}
 use Rattle.text_spec.proofs.Ascii.{Ascii}
 use Rattle.packet_spec.proofs.TextBlocks.{ascii-blocks}
-use Rattle.block_headers.specs.internal.Seen.{seenHeads}
+use Rattle.packet_spec.specs.internal.Heads.{headsIn}
 use Rattle.blocks.proofs.judging.judge_text.Statement.{statement}
 use Rattle.blocks.proofs.judging.judge_text.Tie as tie
 
@@ -36,7 +36,7 @@ returns c =
     let q : take (a .end - a .first) (drop (a .first) (now (a .packet))) ≡ s = mid-slice (a .first) (a .end) (now (a .packet)) (omega arith) in
     let l : length s ≡ a .end - a .first = length-slice (a .first) (a .end) (now (a .packet)) (omega arith) in
     let all : Every Ascii s = rw (q, take-all n s (omega arith)) at (c .before .ascii-end .ensures .1) in
-    rw (ascii-blocks (seenHeads (a .count) (a .heads)) s all)
+    rw (ascii-blocks (headsIn (a .count) (drop (a .from) (now (a .packet)))) s all)
 
 check-requires : tie.Need-check-requires
 check-requires c κs = search needs

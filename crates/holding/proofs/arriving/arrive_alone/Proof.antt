@@ -2,6 +2,7 @@ use mathlib.Core.Path.{_∙_, ap, sym}
 use mir.Syntax.{w16}
 use mir.Facts.{toZ-ofZ}
 use borrow.Author.Needs.{needs}
+use denote.Ref.{now}
 use Rattle.receiver_spec.specs.State.{Receiver}
 use Rattle.receiver.specs.View.{receiverOf, advanced}
 use Rattle.holding.specs.View.{holdingOf, holdingAnswer}
@@ -28,9 +29,9 @@ holds-requires c κs = search needs
 returns : tie.Need-returns
 returns c =
     let q = c .before .before .before in
-    let a = q .before .before .before .args in
+    let a = q .before .before .before .before .args in
     let k = a .packet in
-    waits-alone (receiverOf (a .receiver)) (a .clock) k (advanced (q .before .before .accept .result)) (q .before .before .accept .ensures) (holdingOf (c .holds .result))
+    waits-alone (receiverOf (a .receiver)) (a .clock) (now (a .bytes)) k (advanced (q .before .before .accept .result)) (q .before .before .accept .ensures) (holdingOf (c .holds .result))
     _
     (sym (q .before .would-lose .ensures) ∙ q .if1 .taken)
     (c .holds .ensures ∙ ap (λ (x : Receiver). holdsOne x (k .sequence) (a .clock) (a .clock)) (c .before .before .cleared .ensures))
@@ -45,8 +46,8 @@ tell-requires c κs = search needs
 returns-2 : tie.Need-returns-2
 returns-2 c =
     let q = c .before .before in
-    let a = q .before .before .before .args in
-    goes-alone (receiverOf (a .receiver)) (a .clock) (a .packet) (advanced (q .before .before .accept .result)) (q .before .before .accept .ensures) (holdingOf (c .before .empty .result))
+    let a = q .before .before .before .before .args in
+    goes-alone (receiverOf (a .receiver)) (a .clock) (now (a .bytes)) (a .packet) (advanced (q .before .before .accept .result)) (q .before .before .accept .ensures) (holdingOf (c .before .empty .result))
     (holdingAnswer (c .tell .result))
     (sym (q .before .would-lose .ensures) ∙ q .if1 .left)
     (c .before .empty .ensures)

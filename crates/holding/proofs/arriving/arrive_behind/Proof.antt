@@ -3,6 +3,7 @@ use mathlib.Core.Bool.{Bool, true, false, not}
 use mir.Syntax.{w16}
 use mir.Facts.{toZ-ofZ}
 use borrow.Author.Needs.{needs}
+use denote.Ref.{now}
 use Rattle.receiver_spec.specs.State.{Receiver}
 use Rattle.receiver.specs.internal.Read.{readGiven}
 use Rattle.receiver.specs.View as plain
@@ -29,8 +30,8 @@ stay-requires c κs = search needs
 returns : tie.Need-returns
 returns c =
     let s = c .before .before .before in
-    let a = s .before .args in
-    first-behind (receiverOf (a .receiver)) (a .clock) (a .packet) (plain.advanced (s .accept .result)) (s .accept .ensures) (holdingOf (c .stay .result .receiver)) (a .arrival) (a .lent)
+    let a = s .before .before .before .args in
+    first-behind (receiverOf (a .receiver)) (a .clock) (now (a .bytes)) (a .packet) (plain.advanced (s .accept .result)) (s .accept .ensures) (holdingOf (c .stay .result .receiver)) (a .arrival) (now (a .held)) (a .lent)
     (advanced (c .stay .result)) (c .stay .ensures) (unsourced (c .before .if1 .taken))
 
 distance-requires : tie.Need-distance-requires
@@ -44,8 +45,8 @@ returns-2 c =
     let u = c .before .before in
     let v = u .before .before .before in
     let s = v .before .before in
-    let a = s .before .args in
-    copy-behind (receiverOf (a .receiver)) (a .clock) (a .packet) (plain.advanced (s .accept .result)) (s .accept .ensures) (holdingOf (c .holds .result)) (a .arrival) (a .lent)
+    let a = s .before .before .before .args in
+    copy-behind (receiverOf (a .receiver)) (a .clock) (now (a .bytes)) (a .packet) (plain.advanced (s .accept .result)) (s .accept .ensures) (holdingOf (c .holds .result)) (a .arrival) (now (a .held)) (a .lent)
     _ (sourced (v .if1 .left)) (u .if2 .taken) (c .holds .ensures)
     (toZ-ofZ {w = w16} {z = c .before .distance .result} (record { sfits = c .before .distance .ok }) ∙ c .before .distance .ensures)
 
@@ -67,8 +68,8 @@ returns-3 c =
     let u = g .before .before .before in
     let v = u .before .before .before in
     let s = v .before .before in
-    let a = s .before .args in
-    break-behind (receiverOf (a .receiver)) (a .clock) (a .packet) (plain.advanced (s .accept .result)) (s .accept .ensures) (holdingOf (c .before .empty .result)) (a .arrival) (a .lent)
+    let a = s .before .before .before .args in
+    break-behind (receiverOf (a .receiver)) (a .clock) (now (a .bytes)) (a .packet) (plain.advanced (s .accept .result)) (s .accept .ensures) (holdingOf (c .before .empty .result)) (a .arrival) (now (a .held)) (a .lent)
     (plain.advanced (g .give .result)) (holdingAnswer (c .tell .result)) (sourced (v .if1 .left)) (u .if2 .left)
     (sym (g .before .before .is-break .ensures) ∙ g .before .if3 .taken) (g .give .ensures) (c .before .empty .ensures) (c .tell .ensures)
 
@@ -94,11 +95,11 @@ returns-4 c =
     let u = f .before .before .before .before in
     let v = u .before .before .before in
     let s = v .before .before in
-    let a = s .before .args in
-    farther-behind (receiverOf (a .receiver)) (a .clock) (a .packet) (plain.advanced (s .accept .result)) (s .accept .ensures) (holdingOf (c .before .holds2 .result)) (a .arrival) (a .lent)
+    let a = s .before .before .before .args in
+    farther-behind (receiverOf (a .receiver)) (a .clock) (now (a .bytes)) (a .packet) (plain.advanced (s .accept .result)) (s .accept .ensures) (holdingOf (c .before .holds2 .result)) (a .arrival) (now (a .held)) (a .lent)
     (plain.advanced (g .give2 .result)) (holdingAnswer (c .tell2 .result)) (sourced (v .if1 .left)) (u .if2 .left)
     (sym (f .before .is-farther .ensures) ∙ f .if4 .taken)
-    (g .give2 .ensures ∙ ap (λ (r : Receiver). readGiven r (a .lent)) (g .before .cleared .ensures)) (c .before .holds2 .ensures) (c .tell2 .ensures)
+    (g .give2 .ensures ∙ ap (λ (r : Receiver). readGiven r (now (a .held)) (a .lent)) (g .before .cleared .ensures)) (c .before .holds2 .ensures) (c .tell2 .ensures)
 
 stay-requires-2 : tie.Need-stay-requires-2
 stay-requires-2 c κs = search needs
@@ -109,8 +110,8 @@ returns-5 c =
     let u = f .before .before .before .before in
     let v = u .before .before .before in
     let s = v .before .before in
-    let a = s .before .args in
-    stays-behind (receiverOf (a .receiver)) (a .clock) (a .packet) (plain.advanced (s .accept .result)) (s .accept .ensures) (holdingOf (c .stay2 .result .receiver)) (a .arrival) (a .lent)
+    let a = s .before .before .before .args in
+    stays-behind (receiverOf (a .receiver)) (a .clock) (now (a .bytes)) (a .packet) (plain.advanced (s .accept .result)) (s .accept .ensures) (holdingOf (c .stay2 .result .receiver)) (a .arrival) (now (a .held)) (a .lent)
     (advanced (c .stay2 .result)) (c .stay2 .ensures) (sourced (v .if1 .left)) (u .if2 .left)
     (sym (f .before .before .before .is-break .ensures) ∙ f .before .before .if3 .left) (sym (f .before .is-farther .ensures) ∙ f .if4 .left)
 

@@ -1,5 +1,6 @@
 use mathlib.Core.Path.{_∙_, sym}
 use borrow.Author.Needs.{needs}
+use denote.Ref.{now}
 use Rattle.receiver.specs.View as plain
 use Rattle.receiver.specs.View.{receiverOf}
 use Rattle.holding.specs.View.{holdingOf, holdingAnswer}
@@ -20,8 +21,8 @@ returns : tie.Need-returns
 returns c =
     let q = c .before in
     let g = q .before .before in
-    let a = g .before .args in
-    waits-behind (receiverOf (a .receiver)) (a .clock) (a .arrival) (a .lent) (plain.advanced (g .give .result)) (g .give .ensures) (holdingOf (c .holds .result))
+    let a = g .before .before .args in
+    waits-behind (receiverOf (a .receiver)) (a .clock) (a .arrival) (now (a .held)) (a .lent) (plain.advanced (g .give .result)) (g .give .ensures) (holdingOf (c .holds .result))
     (sym (q .before .is-early .ensures) ∙ q .if1 .taken) (c .holds .ensures)
 
 empty-requires : tie.Need-empty-requires
@@ -34,8 +35,8 @@ returns-2 : tie.Need-returns-2
 returns-2 c =
     let q = c .before .before in
     let g = q .before .before in
-    let a = g .before .args in
-    goes-behind (receiverOf (a .receiver)) (a .clock) (a .arrival) (a .lent) (plain.advanced (g .give .result)) (g .give .ensures) (holdingOf (c .before .empty .result))
+    let a = g .before .before .args in
+    goes-behind (receiverOf (a .receiver)) (a .clock) (a .arrival) (now (a .held)) (a .lent) (plain.advanced (g .give .result)) (g .give .ensures) (holdingOf (c .before .empty .result))
     (holdingAnswer (c .tell .result)) (sym (q .before .is-early .ensures) ∙ q .if1 .left) (c .before .empty .ensures) (c .tell .ensures)
 
 pub wait-behind-spec : {M : Type 1} → statement M

@@ -36,7 +36,7 @@ returns-2 c =
     let q = c .before .before .before .before in
     let a = q .before .before .before .args in
     let h = accepted-is (receiverOf (a .holder .receiver)) (now (a .packet)) (q .read .result) (q .read .ensures) (c .before .before .enum-told .given .1) in
-    c .arrive-alone .ensures (now (a .packet)) (h .0) (h .1) ∙ sym (ap (arrivesRead (holdingOf (a .holder)) (a .clock) (now (a .packet)) none) (h .1 .read))
+    c .arrive-alone .ensures (h .0) (h .1) ∙ sym (ap (arrivesRead (holdingOf (a .holder)) (a .clock) (now (a .packet)) none) (h .1 .read))
 
 pub step-alone-spec : {M : Type 1} → statement M
 step-alone-spec =

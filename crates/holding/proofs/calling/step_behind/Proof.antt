@@ -68,7 +68,7 @@ returns-3 c =
     let r = receiverOf (a .holder .receiver) in
     let h = lent-accepted r (a .holder .held) (now (a .lent)) (q .read-back .result) (q .read-back .ensures) (p .before .enum-told .given .1) in
     let n = accepted-is r (now (a .packet)) (p .read .result) (p .read .ensures) (c .before .before .before .enum-told2 .given .1) in
-    c .arrive-behind .ensures (now (a .lent)) (now (a .packet)) (h .0) (n .0) (h .2) (n .1)
+    c .arrive-behind .ensures (h .0) (n .0) (h .2) (n .1)
     ∙ sym (ap₂ {C = HoldingStep} (λ (x y : Read). arrivesRead s (a .clock) (now (a .packet)) (arrivedAt (s .arrival) (now (a .lent)) x) y) (h .2 .read) (n .1 .read))
     ∙ is-back s (a .clock) (now (a .lent)) _ (h .1)
 

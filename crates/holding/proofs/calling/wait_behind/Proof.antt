@@ -40,7 +40,7 @@ returns-2 c =
     let a = q .before .before .before .args in
     let s = holdingOf (a .holder) in
     let h = lent-accepted (receiverOf (a .holder .receiver)) (a .holder .held) (now (a .lent)) (q .read-back .result) (q .read-back .ensures) (c .before .before .enum-told .given .1) in
-    c .wait-behind .ensures (now (a .lent)) (h .0) (h .2)
+    c .wait-behind .ensures (h .0) (h .2)
     ∙ sym (ap (λ (x : Read). waited (s .receiver) (a .clock) (arrivedAt (s .arrival) (now (a .lent)) x)) (h .2 .read))
     ∙ is-back s (a .clock) (now (a .lent)) _ (h .1)
 

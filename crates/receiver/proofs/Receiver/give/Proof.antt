@@ -6,7 +6,7 @@ use Rattle.receiver.proofs.Receiver.give.Tie as tie
 
 returns : tie.Need-returns
 unfolding level
-returns c = rw (lt-ltb level (c .before .before .args .packet .count) (c .if1 .taken))
+returns c = rw (lt-ltb level (c .before .before .before .args .packet .count) (c .if1 .taken))
 
 give-requires : tie.Need-give-requires
 unfolding level
@@ -14,7 +14,7 @@ give-requires c κs = search needs
 
 returns-2 : tie.Need-returns-2
 unfolding level
-returns-2 c = rw (le-ltb level (c .before .before .before .args .packet .count) (c .before .if1 .left)) (c .give .ensures)
+returns-2 c = rw (le-ltb level (c .before .before .before .before .args .packet .count) (c .before .if1 .left)) (c .give .ensures)
 
 pub give-spec : {M : Type 1} → statement M
 give-spec = tie.close (tie.spec returns give-requires returns-2)

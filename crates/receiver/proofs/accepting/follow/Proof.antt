@@ -21,8 +21,8 @@ moved-requires c κs = search needs
 
 returns : tie.Need-returns
 returns c =
-    let a = c .before .before .args in
-    rw (toZ-ofZ {w = w16} {z = a .distance} (c .before .before .fits .distance), add-one (a .wanted), c .moved .ensures, c .before .start-of .ensures)
+    let a = c .before .before .before .args in
+    rw (toZ-ofZ {w = w16} {z = a .distance} (c .before .before .before .fits .distance), add-one (a .wanted), c .moved .ensures, c .before .start-of .ensures)
 
 pub follow-spec : {M : Type 1} → statement M
 follow-spec = tie.close (tie.spec sub-first start-of-requires add-given moved-requires returns)

@@ -17,9 +17,6 @@ use Rattle.receiver.proofs.accepting.leap.Tie as tie
 is-kept-requires : tie.Need-is-kept-requires
 is-kept-requires c κs = search needs
 
-start-of-requires : tie.Need-start-of-requires
-start-of-requires c κs = search needs
-
 add-given : tie.Need-add-given
 add-given c = omega (arith, level-most)
 
@@ -28,10 +25,10 @@ moved-requires c κs = search needs
 
 returns : tie.Need-returns
 returns c =
-    let q = c .before .before in
+    let q = c .before in
     let a = q .before .before .args in
     let k : isKept (keptBy (receiverOf (a .receiver))) (a .packet .sequence) ≡ true = sym (q .before .is-kept .ensures) ∙ q .if1 .taken in
-    rw (k, add-one (a .packet .count), c .moved .ensures, c .before .start-of .ensures)
+    rw (k, add-one (a .packet .count), c .moved .ensures)
 
 next-requires : tie.Need-next-requires
 next-requires c κs = search needs
@@ -46,4 +43,4 @@ returns-2 c =
 pub leap-spec : {M : Type 1} → statement M
 leap-spec =
     tie.close
-    (tie.spec is-kept-requires start-of-requires add-given moved-requires returns next-requires returns-2)
+    (tie.spec is-kept-requires add-given moved-requires returns next-requires returns-2)
