@@ -1,5 +1,5 @@
 -- The run of young times.
-use Prim.Native.Nat.{ℕ, zero, suc, _-_, _≤_, _<_, min}
+use Prim.Native.Nat.{ℕ, zero, suc, _-_, _%_, _≤_, _<_}
 use mathlib.Core.Path.{_≡_, _∙_, refl, ap}
 use mathlib.Core.List.{List, [], _∷_}
 use mathlib.Core.Bool.{Bool, true, false, cond}
@@ -13,7 +13,7 @@ use Rattle.delivery.specs.Run.{oldestAge}
 use Rattle.carrying.specs.internal.Young.{young, youngRun}
 
 -- its age fits the 14 bits of a time offset
-pub young-age : (t at : ℕ) → young t at ≡ true → min (t - at) oldestAge ≡ t - at
+pub young-age : (t at : ℕ) → young t at ≡ true → (t - at) % 16384 ≡ t - at
 young-age t at e = omega (arith, leb-true (t - at) oldestAge e)
 
 -- the run goes on behind the first k

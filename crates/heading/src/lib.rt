@@ -86,23 +86,23 @@ fn second(marker: bool, kind: u8) -> u8
     kind
 }
 
-// The fixed header, of 12 bytes.
+// The fixed header, of 12 bytes. The source is written first, so that its bytes are stored as one number.
 fn put_header(to: &mut [u8], second: u8, sequence: u16, timestamp: u32, source: u32)
     requires { ⌜ 12 ≤ length (now to) ⌝ }
     ensures { λ _. ⌜ now (to .exit) ≡ over (fixedHeader second sequence timestamp source) (now (to .entry)) ⌝ }
 {
-    to[0] = 0x80;
-    to[1] = second;
-    to[2] = (sequence / 256) as u8;
-    to[3] = (sequence % 256) as u8;
-    to[4] = (timestamp / 16777216) as u8;
-    to[5] = (timestamp / 65536 % 256) as u8;
-    to[6] = (timestamp / 256 % 256) as u8;
-    to[7] = (timestamp % 256) as u8;
     to[8] = (source / 16777216) as u8;
     to[9] = (source / 65536 % 256) as u8;
     to[10] = (source / 256 % 256) as u8;
     to[11] = (source % 256) as u8;
+    to[4] = (timestamp / 16777216) as u8;
+    to[5] = (timestamp / 65536 % 256) as u8;
+    to[6] = (timestamp / 256 % 256) as u8;
+    to[7] = (timestamp % 256) as u8;
+    to[2] = (sequence / 256) as u8;
+    to[3] = (sequence % 256) as u8;
+    to[0] = 0x80;
+    to[1] = second;
 }
 
 // The headers of the first `count` blocks, the last of them first, and the primary's. The loop has a fixed number of turns and
@@ -145,12 +145,9 @@ fn put_head(to: &mut [u8], t140: u8, clock: u64, at: u64, len: usize)
     to[3] = (size % 256) as u8;
 }
 
+// The low 14 bits of the age: all of it for a block that is repeated.
 fn offset(clock: u64, at: u64) -> u64
     ensures { λ r. ⌜ r ≡ offsetOf clock at ⌝ }
 {
-    let age = numbers::passed(clock, at);
-    if Block::OLDEST < age {
-        return Block::OLDEST;
-    }
-    age
+    numbers::passed(clock, at) % (Block::OLDEST + 1)
 }

@@ -17,8 +17,7 @@ use Rattle.sender_spec.specs.Answers.{refused, quiet, sent}
 use Rattle.writer.specs.Draft.{Result, answerBy, putOf}
 use Rattle.carrying.specs.internal.Young.{youngRun, textTotal}
 use Rattle.slots.specs.Slots.{textsSize}
-use Rattle.writer.specs.internal.Parts.{fitted, withLens, packetWith, packetSize}
-use Rattle.writer.proofs.KeptBlocks.{blocks-fitted}
+use Rattle.writer.specs.internal.Parts.{packetWith, packetSize}
 use Rattle.writer.proofs.PacketByParts.{packet-is, size-is, some-is}
 
 -- a packet has a header
@@ -64,8 +63,3 @@ module _ (d : Draft) (texts : List ℕ) (n : ℕ) (lens : length (d .lens) ≡ l
   pub put-sent : 0 < text → size ≤ length p → record { answer = sent size; lent = over (packetWith d texts n) p } ≡ putOf d texts p
   put-sent h k =
       sym (put-is ∙ (λ i. put (lt-ltb 0 text h i) (le-ltb (length p) size k i) size (over (packetWith d texts n) p) p))
-
--- the packet is that of lengths that fit
-pub put-fitted : (d : Draft) (texts p : List ℕ) → putOf (withLens d (fitted (d .lens))) texts p ≡ putOf d texts p
-unfolding putOf
-put-fitted d texts p = rw (blocks-fitted texts (d .room) (d .lens) (d .ats) 1)

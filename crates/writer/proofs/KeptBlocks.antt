@@ -22,7 +22,7 @@ use Rattle.carrying.proofs.YoungRun.{AllYoung, young-age}
 use Rattle.heading.specs.internal.LastFirst.{lastFirst}
 use Rattle.heading.specs.internal.Headers.{offsetOf, headAt, headersFor}
 use Rattle.heading.proofs.LastFirst.{last-none, last-more}
-use Rattle.writer.specs.internal.Parts.{fitted, textAt}
+use Rattle.writer.specs.internal.Parts.{textAt}
 use Rattle.writer.proofs.Slots.{kept-length}
 
 reverse-last-onto : (xs ys : List SentBlock) (x : SentBlock) → reverseAux (xs ++ (x ∷ [])) ys ≡ x ∷ reverseAux xs ys
@@ -65,14 +65,6 @@ module _ (texts : List ℕ) (room : ℕ) where
   blocks-length [] (at ∷ ats) back e = absurd (omega arith)
   blocks-length (n ∷ lens) [] back e = absurd (omega arith)
   blocks-length (n ∷ lens) (at ∷ ats) back e = ap suc (blocks-length lens ats (suc back) (omega arith))
-
-  -- no more than a slot is taken of any
-  pub blocks-fitted : (lens ats : List ℕ) (back : ℕ) → blocksFrom texts room back (fitted lens) ats ≡ blocksFrom texts room back lens ats
-  blocks-fitted [] ats back = refl
-  blocks-fitted (n ∷ lens) [] back = refl
-  blocks-fitted (n ∷ lens) (at ∷ ats) back =
-      let e : min (min n roomSize) roomSize ≡ min n roomSize = omega arith in
-      (λ i. record { text = take (e i) (drop (slotOf room back * roomSize) texts); at = at } ∷ blocks-fitted lens ats (suc back) i)
 
   blocks-at : (lens ats : List ℕ) (back i : ℕ) (d : SentBlock) → i < length lens → i < length ats
       → getD (blocksFrom texts room back lens ats) i d ≡ block texts room (i + back) (getD lens i 0) (getD ats i 0)

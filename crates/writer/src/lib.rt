@@ -9,7 +9,7 @@ ghost use Rattle.packet_spec.specs.Limits.{level};
 ghost use Rattle.sender_spec.specs.Limits.{roomSize};
 ghost use Rattle.writer.specs.Draft.{clockAnswer, answerBy, isQuiet, isSent, putOf};
 ghost use Rattle.slots.specs.Slots.{textsSize};
-ghost use Rattle.writer.specs.internal.Parts.{fitted, packetSize};
+ghost use Rattle.writer.specs.internal.Parts.{packetSize};
 use heading::Front;
 use packet::Packet;
 use packet::Refusal;
@@ -89,7 +89,6 @@ fn put_draft(packet: &mut [u8], texts: &[u8], draft: Draft) -> usize
     ensures { λ r. ⌜ record { answer = clockAnswer (answerBy r (length (now (packet .entry)))); lent = now (packet .exit) } ≡ putOf draft (now (texts .entry)) (now (packet .entry)) ⌝ }
 {
     let lens = draft.lens;
-    let lens = fitting(lens);
     let ats = draft.ats;
     let most = numbers::least(draft.level, draft.count);
     let carried = carrying::run(lens, ats, most, draft.clock);
@@ -124,20 +123,6 @@ fn put_draft(packet: &mut [u8], texts: &[u8], draft: Draft) -> usize
         carried.count,
     );
     size
-}
-
-// Lengths that fit a slot each.
-fn fitting(lens: [usize; Packet::LEVEL]) -> [usize; Packet::LEVEL]
-    ensures { λ r. ⌜ r ≡ fitted lens ⌝ }
-{
-    let mut fit = lens;
-    let mut i = 0;
-    while i < Packet::LEVEL {
-        let n = fit[i];
-        fit[i] = numbers::least(n, Texts::ROOM);
-        i += 1;
-    }
-    fit
 }
 
 // The length of a packet with `count` older blocks of `older` bytes together, and a primary of `primary` bytes.

@@ -26,30 +26,25 @@ fn start(room: usize, back: usize) -> usize
     at + Texts::SIZE - before
 }
 
-// The text of so many packets back, or with 0 what waits; its length.
+// The text of so many packets back, or with 0 what waits; its length. A typed text is a letter or two: so few go one by one, which
+// costs less than a copy made for many.
 fn put_text(to: &mut [u8], texts: &[u8], room: usize, back: usize, len: usize) -> usize
     requires { ⌜ (length (now texts) ≡ textsSize) × (back ≤ slots) × (length (slotText (now texts) (slotOf room back) len) ≤ length (now to)) ⌝ }
     ensures { λ r. ⌜ (r ≡ length (slotText (now (texts .entry)) (slotOf room back) len)) × (now (to .exit) ≡ over (slotText (now (texts .entry)) (slotOf room back) len) (now (to .entry))) ⌝ }
 {
-    let size = numbers::least(len, Texts::ROOM);
     let from = start(room, back);
+    if len < SHORT {
+        let end = from + len;
+        copy_few(&texts[from..end], to);
+        return len;
+    }
+    let size = numbers::least(len, Texts::ROOM);
     let end = from + size;
-    copy(&texts[from..end], to);
+    bytes::copy(&texts[from..end], to);
     size
 }
 
-// Copies to the front. A typed text is a letter or two: so few go one by one, which costs less than a copy made for many.
-fn copy(src: &[u8], dst: &mut [u8])
-    requires { ⌜ length (now src) ≤ length (now dst) ⌝ }
-    ensures { λ _. ⌜ now (dst .exit) ≡ over (now (src .entry)) (now (dst .entry)) ⌝ }
-{
-    if src.len() < SHORT {
-        copy_few(src, dst);
-        return;
-    }
-    bytes::copy(src, dst);
-}
-
+// Copies to the front.
 fn copy_few(src: &[u8], dst: &mut [u8])
     requires { ⌜ length (now src) ≤ length (now dst) ⌝ }
     ensures { λ _. ⌜ now (dst .exit) ≡ over (now (src .entry)) (now (dst .entry)) ⌝ }

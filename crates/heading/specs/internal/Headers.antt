@@ -8,13 +8,12 @@ use Rattle.heading.specs.declared.Front.{Front}
 use Rattle.base.specs.Arrays.{over}
 use Rattle.packet_spec.specs.Limits.{level}
 use Rattle.packet_spec.specs.Encoding.{markerBit, fixedHeader, blockHeader}
-use Rattle.delivery.specs.Run.{oldestAge}
 use Rattle.sender_spec.specs.Limits.{roomSize}
 use Rattle.heading.specs.internal.LastFirst.{lastFirst}
 
 -- a time offset has 14 bits
 abbrev pub offsetOf : ℕ → ℕ → ℕ
-offsetOf t at = min (t - at) oldestAge
+offsetOf t at = (t - at) % 16384
 
 abbrev pub headAt : ℕ → ℕ → List ℕ → List ℕ → ℕ → List ℕ
 headAt t140 t lens ats i = blockHeader t140 (offsetOf t (getD ats i 0)) (min (getD lens i 0) roomSize)

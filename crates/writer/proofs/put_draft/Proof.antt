@@ -2,7 +2,7 @@ use Prim.Native.Nat.{ℕ, _+_, _-_, _≤_, min}
 use mathlib.Core.Path.{_≡_, _∙_, ap}
 use mathlib.Core.List.{List, _++_}
 use native.Mathlib.Omega.{arith}
-use lib.ListN.{length, take, length-append, length-map}
+use lib.ListN.{length, take, length-append}
 use borrow.Rule.Slice.PartMut.{putMid}
 use denote.Ref.{now}
 use Rattle.base.specs.Arrays.{over}
@@ -15,55 +15,39 @@ use Rattle.carrying.specs.internal.Young.{youngRun, textTotal}
 use Rattle.heading.specs.internal.Headers.{frontWith}
 use Rattle.heading.proofs.Headers.{front-over}
 use Rattle.writer.specs.declared.Draft.{Draft}
-use Rattle.writer.specs.Draft.{clockAnswer, putOf}
-use Rattle.writer.specs.internal.Parts.{withLens, textsOf, frontIn, packetWith, packetSize}
+use Rattle.writer.specs.Draft.{clockAnswer}
+use Rattle.writer.specs.internal.Parts.{textsOf, frontIn, packetWith, packetSize}
 use Rattle.writer.proofs.PacketByParts.{few, front-size, size-is}
-use Rattle.writer.proofs.Answers.{by-short, by-sent, put-quiet, put-short, put-sent, put-fitted}
+use Rattle.writer.proofs.Answers.{by-short, by-sent, put-quiet, put-short, put-sent}
 use borrow.Author.Needs.{needs}
 use Rattle.writer.proofs.put_draft.Statement.{statement}
 use Rattle.writer.proofs.put_draft.Tie as tie
 
 abbrev start : tie.After-run → tie.Start
-start c = c .before .before .before .before .before .before .before
+start c = c .before .before .before .before .before .before
 
-lens-long : (c : tie.Start) → length (c .args .draft .lens) ≡ level
+abbrev made : tie.After-run → Draft
+made c = start c .args .draft
+
+lens-long : (c : tie.After-run) → length (made c .lens) ≡ level
 unfolding level
 lens-long c = search needs
 
--- the draft with lengths that fit
-abbrev fit : tie.After-run → Draft
-fit c = withLens (start c .args .draft) (c .before .before .before .fitting .result)
-
-fit-long : (c : tie.After-run) → length (fit c .lens) ≡ level
-fit-long c =
-    let lens = start c .args .draft .lens in
-    ap length (c .before .before .before .fitting .ensures) ∙ length-map lens (λ n. min n roomSize) ∙ lens-long (start c)
-
-ats-long : (c : tie.After-run) → length (fit c .ats) ≡ level
+ats-long : (c : tie.After-run) → length (made c .ats) ≡ level
 unfolding level
 ats-long c = search needs
 
--- it means the same packet
-same-put : (c : tie.After-run) → let a = start c .args in putOf (fit c) (now (a .texts)) (now (a .packet)) ≡ putOf (a .draft) (now (a .texts)) (now (a .packet))
-same-put c =
-    let a = start c .args in
-    ap (λ (lens : List ℕ). putOf (withLens (a .draft) lens) (now (a .texts)) (now (a .packet))) (c .before .before .before .fitting .ensures)
-    ∙ put-fitted (a .draft) (now (a .texts)) (now (a .packet))
-
 -- the run is the definition's
-run-is : (c : tie.After-run) → let d = fit c in c .run .result .count ≡ youngRun (d .clock) (take (min (d .level) (d .count)) (d .ats))
-run-is c = let d = fit c in c .run .ensures .0 ∙ ap (λ (m : ℕ). youngRun (d .clock) (take m (d .ats))) (c .before .least .ensures)
+run-is : (c : tie.After-run) → let d = made c in c .run .result .count ≡ youngRun (d .clock) (take (min (d .level) (d .count)) (d .ats))
+run-is c = let d = made c in c .run .ensures .0 ∙ ap (λ (m : ℕ). youngRun (d .clock) (take m (d .ats))) (c .before .least .ensures)
 
 -- and so is the length
-size-of : (c : tie.After-size) → let r = c .before .before .before in let d = fit r in
+size-of : (c : tie.After-size) → let r = c .before .before .before in let d = made r in
     c .size .result ≡ packetSize (d .level) (r .run .result .count) (textTotal (take (r .run .result .count) (d .lens))) (min (d .len) roomSize)
 size-of c =
     let r = c .before .before .before in
-    let d = fit r in
+    let d = made r in
     c .size .ensures ∙ (λ i. packetSize (d .level) (r .run .result .count) (r .run .ensures .1 i) (c .before .before .least2 .ensures i))
-
-fitting-requires : tie.Need-fitting-requires
-fitting-requires c κs = search needs
 
 least-requires : tie.Need-least-requires
 least-requires c κs = search needs
@@ -82,9 +66,8 @@ returns c =
     let r = c .before .before in
     let st = start r in
     let a = st .args in
-    put-quiet (fit r) (now (a .texts)) (r .run .result .count) (fit-long r) (ats-long r) (st .pre) (run-is r) (now (a .packet))
+    put-quiet (made r) (now (a .texts)) (r .run .result .count) (lens-long r) (ats-long r) (st .pre) (run-is r) (now (a .packet))
     (omega (arith, c .if1 .taken, r .run .ensures .1, c .before .least2 .ensures))
-    ∙ same-put r
 
 size-requires : tie.Need-size-requires
 size-requires c κs = search needs
@@ -97,23 +80,22 @@ returns-2 c =
     let a = st .args in
     let n = r .run .result .count in
     (λ i. record {
-      answer = clockAnswer (by-short (a .draft .level) n (textTotal (take n (fit r .lens))) (min (a .draft .len) roomSize) (s .size .result) (length (now (a .packet))) (size-of s) (c .if2 .taken) i);
+      answer = clockAnswer (by-short (a .draft .level) n (textTotal (take n (made r .lens))) (min (a .draft .len) roomSize) (s .size .result) (length (now (a .packet))) (size-of s) (c .if2 .taken) i);
       lent = now (a .packet);
     })
-    ∙ put-short (fit r) (now (a .texts)) (r .run .result .count) (fit-long r) (ats-long r) (st .pre) (run-is r) (now (a .packet))
+    ∙ put-short (made r) (now (a .texts)) (r .run .result .count) (lens-long r) (ats-long r) (st .pre) (run-is r) (now (a .packet))
     (omega (arith, s .before .if1 .left, r .run .ensures .1, s .before .before .least2 .ensures)) (omega (arith, c .if2 .taken, size-of s))
-    ∙ same-put r
 
 abbrev front : tie.Else2 → List ℕ
 front c =
     let r = c .before .before .before .before in
-    frontWith (frontIn (fit r)) (r .run .result .count)
+    frontWith (frontIn (made r)) (r .run .result .count)
 
 abbrev body : tie.Else2 → List ℕ
 body c =
     let r = c .before .before .before .before in
     let a = start r .args in
-    textsOf (now (a .texts)) (a .draft .room) (fit r .lens) (a .draft .len) (r .run .result .count)
+    textsOf (now (a .texts)) (a .draft .room) (made r .lens) (a .draft .len) (r .run .result .count)
 
 -- the headers, and the texts behind them, fit
 room : (c : tie.Else2) → length (front c) + length (body c) ≤ length (now (start (c .before .before .before .before) .args .packet))
@@ -121,15 +103,15 @@ room c =
     let s = c .before in
     let r = s .before .before .before in
     let st = start r in
-    let d = fit r in
+    let d = made r in
     let n = r .run .result .count in
     let x = now (st .args .texts) in
     omega (
       arith,
       c .if2 .left,
       size-of s,
-      front-size d x n (fit-long r) (ats-long r) (st .pre) (run-is r),
-      size-is d x n (fit-long r) (ats-long r) (st .pre) (run-is r),
+      front-size d x n (lens-long r) (ats-long r) (st .pre) (run-is r),
+      size-is d x n (lens-long r) (ats-long r) (st .pre) (run-is r),
     )
 
 -- the headers are written
@@ -139,10 +121,10 @@ fronted c =
     let e = c .before .before in
     let r = e .before .before .before .before in
     let st = start r in
-    let d = fit r in
+    let d = made r in
     let n = r .run .result .count in
     front-over (frontIn d) n (c .put-front .result) (now (st .args .packet)) (c .put-front .last .0)
-    (few d (now (st .args .texts)) n (fit-long r) (ats-long r) (st .pre) (run-is r)) (omega (arith, room e)) (c .put-front .ensures)
+    (few d (now (st .args .texts)) n (lens-long r) (ats-long r) (st .pre) (run-is r)) (omega (arith, room e)) (c .put-front .ensures)
 
 -- with room for the texts
 space : (c : tie.After-put-front) → c .put-front .result + length (body (c .before .before)) ≤ length (c .put-front .last .0)
@@ -169,17 +151,17 @@ put-texts-requires c κs =
     let e = f .before .before in
     let r = e .before .before .before .before in
     let st = start r in
-    let d = fit r in
+    let d = made r in
     let n = r .run .result .count in
     let x = now (st .args .texts) in (
       st .pre,
-      few d x n (fit-long r) (ats-long r) (st .pre) (run-is r),
+      few d x n (lens-long r) (ats-long r) (st .pre) (run-is r),
       lent-fits (f .put-front .result) (length (body e)) (f .put-front .last .0) (space f),
     )
 
 whole : (c : tie.After-put-texts) → let f = c .before .before .before .before in let e = f .before .before in let r = e .before .before .before .before in let a = start r .args in
     putMid (f .put-front .result) (length (f .put-front .last .0) - f .put-front .result) (f .put-front .last .0) (c .put-texts .last .0)
-    ≡ over (packetWith (fit r) (now (a .texts)) (r .run .result .count)) (now (a .packet))
+    ≡ over (packetWith (made r) (now (a .texts)) (r .run .result .count)) (now (a .packet))
 whole c =
     let f = c .before .before .before .before in
     let p = f .put-front in
@@ -202,19 +184,17 @@ returns-3 c =
     let a = st .args in
     let n = r .run .result .count in
     (λ i. record {
-      answer = clockAnswer (by-sent (a .draft .level) n (textTotal (take n (fit r .lens))) (min (a .draft .len) roomSize) (s .size .result) (length (now (a .packet))) (size-of s) (e .if2 .left) i);
+      answer = clockAnswer (by-sent (a .draft .level) n (textTotal (take n (made r .lens))) (min (a .draft .len) roomSize) (s .size .result) (length (now (a .packet))) (size-of s) (e .if2 .left) i);
       lent = whole (c .before .before) i;
     })
-    ∙ (λ i. record { answer = sent (size-of s i); lent = over (packetWith (fit r) (now (a .texts)) n) (now (a .packet)) })
-    ∙ put-sent (fit r) (now (a .texts)) (r .run .result .count) (fit-long r) (ats-long r) (st .pre) (run-is r) (now (a .packet))
+    ∙ (λ i. record { answer = sent (size-of s i); lent = over (packetWith (made r) (now (a .texts)) n) (now (a .packet)) })
+    ∙ put-sent (made r) (now (a .texts)) (r .run .result .count) (lens-long r) (ats-long r) (st .pre) (run-is r) (now (a .packet))
     (omega (arith, s .before .if1 .left, r .run .ensures .1, s .before .before .least2 .ensures)) (omega (arith, e .if2 .left, size-of s))
-    ∙ same-put r
 
 pub put-draft-spec : {M : Type 1} → statement M
 put-draft-spec =
     tie.close
     (tie.spec
-    fitting-requires
     least-requires
     run-requires
     least-requires-2

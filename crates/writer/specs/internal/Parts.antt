@@ -1,6 +1,6 @@
 -- What the parts of a packet come to, by the lengths and times of the blocks kept, newest first.
-use Prim.Native.Nat.{ℕ, suc, _+_, _*_, min}
-use mathlib.Core.List.{List, _++_, map}
+use Prim.Native.Nat.{ℕ, suc, _+_, _*_}
+use mathlib.Core.List.{List, _++_}
 use mathlib.Core.Bool.{cond}
 use lib.Dec.{eqb}
 use lib.ListN.{getD}
@@ -8,30 +8,7 @@ use Rattle.writer.specs.declared.Draft.{Draft}
 use Rattle.heading.specs.declared.Front.{Front}
 use Rattle.heading.specs.internal.LastFirst.{lastFirst}
 use Rattle.heading.specs.internal.Headers.{frontWith}
-use Rattle.sender_spec.specs.Limits.{roomSize}
 use Rattle.slots.specs.Slots.{slotOf, slotText}
-
--- lengths that fit a slot each
-abbrev pub fitted : List ℕ → List ℕ
-fitted lens = map (λ n. min n roomSize) lens
-
--- a draft with other lengths
-abbrev pub withLens : Draft → List ℕ → Draft
-withLens d lens = record {
-  level = d .level;
-  t140 = d .t140;
-  red = d .red;
-  marker = d .marker;
-  sequence = d .sequence;
-  timestamp = d .timestamp;
-  source = d .source;
-  clock = d .clock;
-  lens = lens;
-  ats = d .ats;
-  count = d .count;
-  room = d .room;
-  len = d .len;
-}
 
 abbrev pub textAt : List ℕ → ℕ → List ℕ → ℕ → List ℕ
 textAt texts room lens i = slotText texts (slotOf room (suc i)) (getD lens i 0)
