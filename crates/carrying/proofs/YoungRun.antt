@@ -1,5 +1,5 @@
 -- The run of young times.
-use Prim.Native.Nat.{ℕ, zero, suc, _-_, _%_, _≤_, _<_}
+use Prim.Native.Nat.{ℕ, zero, suc, _≤_, _<_}
 use mathlib.Core.Path.{_≡_, _∙_, refl, ap}
 use mathlib.Core.List.{List, [], _∷_}
 use mathlib.Core.Bool.{Bool, true, false, cond}
@@ -7,14 +7,8 @@ use native.Mathlib.Nat.{not-suc-le-zero, le-of-suc-le-suc}
 use native.Mathlib.Omega.{arith}
 use lib.ListN.{length, take, drop, getD, length-take, drop-of-length-le}
 use lib.Seq.{drop-cons, getD-take}
-use borrow.Author.Tests.{leb-true}
 use Rattle.base.proofs.Tests.{by-test}
-use Rattle.delivery.specs.Run.{oldestAge}
 use Rattle.carrying.specs.internal.Young.{young, youngRun}
-
--- its age fits the 14 bits of a time offset
-pub young-age : (t at : ℕ) → young t at ≡ true → (t - at) % 16384 ≡ t - at
-young-age t at e = omega (arith, leb-true (t - at) oldestAge e)
 
 -- the run goes on behind the first k
 module _ (t : ℕ) (ats : List ℕ) (most k : ℕ) (h : k < most) (fits : k < length ats) where

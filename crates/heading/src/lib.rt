@@ -2,17 +2,16 @@
 ghost use mathlib.Core.Path.{_≡_};
 ghost use mathlib.Core.Bool.{cond};
 ghost use lib.Dec.{eqb};
-ghost use Prim.Native.Nat.{_+_, _%_, _≤_, _<_, min};
+ghost use Prim.Native.Nat.{_+_, _%_, _≤_, _<_};
 ghost use lib.ListN.{length};
 ghost use Rattle.base.specs.Arrays.{over};
 ghost use Rattle.packet_spec.specs.Limits.{level};
-ghost use Rattle.packet_spec.specs.Encoding.{markerBit, fixedHeader, blockHeader};
-ghost use Rattle.sender_spec.specs.Limits.{roomSize};
-ghost use Rattle.heading.specs.internal.Headers.{offsetOf, headersFor, frontWith, frontSize, frontOf, headersPlaced};
-use carrying::Block;
+ghost use Rattle.packet_spec.specs.Encoding.{markerBit, fixedHeader};
+ghost use Rattle.heading.specs.internal.Headers.{headOf, headersFor, frontWith, frontSize, frontOf, headersPlaced};
 use packet::Packet;
 
-// What the headers are written from: the header's values, and the blocks kept, newest first, by their lengths and times.
+// What the headers are written from: the header's values, and of each block kept, newest first, its age and the bytes of its
+// text, in one number.
 pub struct Front {
     pub level: usize,
     pub t140: u8,
@@ -21,9 +20,7 @@ pub struct Front {
     pub sequence: u16,
     pub timestamp: u32,
     pub source: u32,
-    pub clock: u64,
-    pub lens: [usize; Packet::LEVEL],
-    pub ats: [u64; Packet::LEVEL],
+    pub marks: [u64; Packet::LEVEL],
 }
 
 // The headers of a packet that repeats the first `count` blocks, where the space holds them; their length.
@@ -60,10 +57,9 @@ fn put_all(to: &mut [u8], front: Front, count: usize)
     if repeats == 0 {
         return;
     }
-    let lens = front.lens;
-    let ats = front.ats;
+    let marks = front.marks;
     let t140 = front.t140 % 128;
-    put_heads(&mut to[12..], t140, front.clock, lens, ats, count);
+    put_heads(&mut to[12..], t140, marks, count);
 }
 
 fn kind(repeats: usize, t140: u8, red: u8) -> u8
@@ -107,25 +103,17 @@ fn put_header(to: &mut [u8], second: u8, sequence: u16, timestamp: u32, source: 
 
 // The headers of the first `count` blocks, the last of them first, and the primary's. The loop has a fixed number of turns and
 // no `continue`, so that it is unrolled and no array is copied.
-fn put_heads(
-    to: &mut [u8],
-    t140: u8,
-    clock: u64,
-    lens: [usize; Packet::LEVEL],
-    ats: [u64; Packet::LEVEL],
-    count: usize,
-)
-    requires { ⌜ (t140 < 128) × (count ≤ level) × (length (headersFor t140 clock lens ats count) ≤ length (now to)) ⌝ }
-    ensures { λ _. ⌜ now (to .exit) ≡ over (headersFor t140 clock lens ats count) (now (to .entry)) ⌝ }
+fn put_heads(to: &mut [u8], t140: u8, marks: [u64; Packet::LEVEL], count: usize)
+    requires { ⌜ (t140 < 128) × (count ≤ level) × (length (headersFor t140 marks count) ≤ length (now to)) ⌝ }
+    ensures { λ _. ⌜ now (to .exit) ≡ over (headersFor t140 marks count) (now (to .entry)) ⌝ }
 {
     let mut i = Packet::LEVEL;
     let mut at = 0;
     while 0 < i {
         i -= 1;
         if i < count {
-            let sent = ats[i];
-            let len = lens[i];
-            put_head(&mut to[at..], t140, clock, sent, len);
+            let mark = marks[i];
+            put_head(&mut to[at..], t140, mark);
             at += 4;
         }
     }
@@ -133,21 +121,14 @@ fn put_heads(
 }
 
 // The header of an older block, of 4 bytes.
-fn put_head(to: &mut [u8], t140: u8, clock: u64, at: u64, len: usize)
+fn put_head(to: &mut [u8], t140: u8, mark: u64)
     requires { ⌜ (t140 < 128) × (4 ≤ length (now to)) ⌝ }
-    ensures { λ _. ⌜ now (to .exit) ≡ over (blockHeader t140 (offsetOf clock at) (min len roomSize)) (now (to .entry)) ⌝ }
+    ensures { λ _. ⌜ now (to .exit) ≡ over (headOf t140 mark) (now (to .entry)) ⌝ }
 {
-    let size = numbers::least(len, Block::ROOM) as u64;
-    let offset = offset(clock, at);
+    let offset = mark / 256 % 16384;
+    let size = mark % 256;
     to[0] = 128 + t140;
     to[1] = (offset / 64) as u8;
     to[2] = (offset % 64 * 4 + size / 256) as u8;
     to[3] = (size % 256) as u8;
-}
-
-// The low 14 bits of the age: all of it for a block that is repeated.
-fn offset(clock: u64, at: u64) -> u64
-    ensures { λ r. ⌜ r ≡ offsetOf clock at ⌝ }
-{
-    numbers::passed(clock, at) % (Block::OLDEST + 1)
 }

@@ -101,6 +101,7 @@ fn put_draft(packet: &mut [u8], texts: &[u8], draft: Draft) -> usize
     if packet.len() < size {
         return size;
     }
+    let marks = carried.marks;
     let front = Front {
         level: draft.level,
         t140: draft.t140,
@@ -109,16 +110,14 @@ fn put_draft(packet: &mut [u8], texts: &[u8], draft: Draft) -> usize
         sequence: draft.sequence,
         timestamp: draft.timestamp,
         source: draft.source,
-        clock: draft.clock,
-        lens,
-        ats,
+        marks,
     };
     let at = heading::put_front(packet, front, carried.count);
     writing::put_texts(
         &mut packet[at..],
         texts,
         draft.room,
-        lens,
+        marks,
         draft.len,
         carried.count,
     );

@@ -30,7 +30,7 @@ abbrev heads : tie.Else1 → List ℕ
 heads c =
     let a = c .before .before .before .before .before .before .before .before .args in
     let d = a .front in
-    headersFor (d .t140 % 128) (d .clock) (d .lens) (d .ats) (a .count)
+    headersFor (d .t140 % 128) (d .marks) (a .count)
 
 redundant : (c : tie.Else1) → let a = c .before .before .before .before .before .before .before .before .args in headsWith (a .front) (a .count) ≡ heads c
 redundant c = let a = c .before .before .before .before .before .before .before .before .args in heads-redundant (a .front) (a .count) (c .if1 .left)
@@ -65,25 +65,25 @@ returns c =
     h .put-header .ensures ∙ ap (λ (x : List ℕ). over x (now (a .to))) (front s [] e)
 
 sub-put-heads : tie.Need-sub-put-heads
-sub-put-heads c = let e = c .before .before .before in omega (arith, headed (e .before .before .before), room e)
+sub-put-heads c = let e = c .before .before in omega (arith, headed (e .before .before .before), room e)
 
 part-put-heads-start : tie.Need-part-put-heads-start
-part-put-heads-start c = let e = c .before .before .before in omega (arith, headed (e .before .before .before), room e)
+part-put-heads-start c = let e = c .before .before in omega (arith, headed (e .before .before .before), room e)
 
 part-put-heads-end : tie.Need-part-put-heads-end
 part-put-heads-end c = search needs
 
 put-heads-requires : tie.Need-put-heads-requires
 put-heads-requires c κs =
-    let e = c .before .before .before .before in
+    let e = c .before .before .before in
     let h = e .before .before .before in
     let st = e .before .before .before .before .before .before .before .before in
     (omega arith, st .pre .0, lent-fits 12 (length (heads e)) (h .put-header .last .0) (omega (arith, headed h, room e)))
 
-whole : (c : tie.After-put-heads) → let e = c .before .before .before .before .before in let h = e .before .before .before in let a = e .before .before .before .before .before .before .before .before .args in
+whole : (c : tie.After-put-heads) → let e = c .before .before .before .before in let h = e .before .before .before in let a = e .before .before .before .before .before .before .before .before .args in
     putMid 12 (length (h .put-header .last .0) - 12) (h .put-header .last .0) (c .put-heads .last .0) ≡ over (frontWith (a .front) (a .count)) (now (a .to))
 whole c =
-    let e = c .before .before .before .before .before in
+    let e = c .before .before .before .before in
     let h = e .before .before .before in
     let s = h .before .before in
     let a = e .before .before .before .before .before .before .before .before .args in
@@ -92,7 +92,7 @@ whole c =
 
 same-length-2 : tie.Need-same-length-2
 same-length-2 c =
-    let st = c .before .before .before .before .before .before .before .before .before .before .before .before .before .before .before in
+    let st = c .before .before .before .before .before .before .before .before .before .before .before .before .before .before in
     ap length (whole (c .before .before)) ∙ length-over (frontWith (st .args .front) (st .args .count)) (now (st .args .to)) (st .pre .1)
 
 returns-2 : tie.Need-returns-2

@@ -2,16 +2,10 @@ use native.Mathlib.Omega.{arith}
 use lib.ListN.{length-set}
 use denote.Ref.{now}
 use Rattle.base.proofs.Stores.{sets-over}
-use Rattle.packet_spec.specs.Encoding.{blockHeader}
+use Rattle.heading.specs.internal.Headers.{headOf}
 use borrow.Author.Needs.{needs}
 use Rattle.heading.proofs.put_head.Statement.{statement}
 use Rattle.heading.proofs.put_head.Tie as tie
-
-least-requires : tie.Need-least-requires
-least-requires c κs = search needs
-
-offset-requires : tie.Need-offset-requires
-offset-requires c κs = search needs
 
 add-to : tie.Need-add-to
 add-to c = search needs
@@ -48,15 +42,13 @@ same-length c = simp length-set
 
 returns : tie.Need-returns
 returns c =
-    let a = c .before .before .before .args in
-    rw (← (c .before .least .ensures), ← (c .offset .ensures)) (sets-over (blockHeader (a .t140) (c .offset .result) (c .before .least .result)) (now (a .to)) (c .before .before .before .pre .1))
+    let a = c .args in
+    sets-over (headOf (a .t140) (a .mark)) (now (a .to)) (c .pre .1)
 
 pub put-head-spec : {M : Type 1} → statement M
 put-head-spec =
     tie.close
     (tie.spec
-    least-requires
-    offset-requires
     add-to
     slice-write-to
     cast-to

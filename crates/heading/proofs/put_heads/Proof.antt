@@ -16,70 +16,62 @@ use Rattle.heading.proofs.put_heads.Statement.{statement}
 use Rattle.heading.proofs.put_heads.Tie as tie
 
 abbrev Inv-loop : tie.InvT-loop
-Inv-loop to₀ t140 clock count lens ats i₀ at₀ to i at = (i ≤ level) × Turn (headAt t140 clock lens ats) (t140 ∷ []) count to₀ to i at
+Inv-loop to₀ t140 count marks i₀ at₀ to i at = (i ≤ level) × Turn (headAt t140 marks) (t140 ∷ []) count to₀ to i at
 
 abbrev μ-loop : tie.MeasureT-loop
-μ-loop to₀ t140 clock count lens ats i₀ at₀ to i at = i
+μ-loop to₀ t140 count marks i₀ at₀ to i at = i
 
 -- the space is as long as it was
 room : (c : tie.At-loop Inv-loop μ-loop) → length (c .loop .to) ≡ length (now (c .before .before .args .to))
 room c =
     let a = c .before .before .args in
     let l = c .loop in
-    turn-room (headAt (a .t140) (a .clock) (a .t4) (a .t5)) (a .t140 ∷ []) (a .count) (now (a .to)) (l .to) (l .i) (l .at) (l .inv .1) (c .before .before .pre .2)
+    turn-room (headAt (a .t140) (a .t3)) (a .t140 ∷ []) (a .count) (now (a .to)) (l .to) (l .i) (l .at) (l .inv .1) (c .before .before .pre .2)
 
 -- the next header fits
 fits : (c : tie.Then1 Inv-loop μ-loop) → c .before .before .loop .at + 4 ≤ length (now (c .before .before .before .before .args .to))
 fits c =
     let a = c .before .before .before .before .args in
     let l = c .before .before .loop in
-    turn-fits (headAt (a .t140) (a .clock) (a .t4) (a .t5)) (a .t140 ∷ []) (a .count) (now (a .to)) (l .to) (l .i) (l .at) (l .inv .1) (c .before .before .before .before .pre .2) (c .before .loop-test .taken) (c .if1 .taken)
+    turn-fits (headAt (a .t140) (a .t3)) (a .t140 ∷ []) (a .count) (now (a .to)) (l .to) (l .i) (l .at) (l .inv .1) (c .before .before .before .before .pre .2) (c .before .loop-test .taken) (c .if1 .taken)
 
 -- none is left but the primary's
 left : (c : tie.After-loop Inv-loop μ-loop) → let a = c .before .before .before .args in
-    Begun (a .t140 ∷ []) (headersFor (a .t140) (a .clock) (a .t4) (a .t5) (a .count)) (now (a .to)) (c .before .loop .to) (c .before .loop .at)
+    Begun (a .t140 ∷ []) (headersFor (a .t140) (a .t3) (a .count)) (now (a .to)) (c .before .loop .to) (c .before .loop .at)
 left c =
     let a = c .before .before .before .args in
     let l = c .before .loop in
-    turn-end (headAt (a .t140) (a .clock) (a .t4) (a .t5)) (a .t140 ∷ []) (a .count) (now (a .to)) (l .to) (l .i) (l .at) (l .inv .1) (c .loop-test .left)
+    turn-end (headAt (a .t140) (a .t3)) (a .t140 ∷ []) (a .count) (now (a .to)) (l .to) (l .i) (l .at) (l .inv .1) (c .loop-test .left)
 
-ends : (c : tie.After-loop Inv-loop μ-loop) → let a = c .before .before .before .args in c .before .loop .at + 1 ≡ length (headersFor (a .t140) (a .clock) (a .t4) (a .t5) (a .count))
+ends : (c : tie.After-loop Inv-loop μ-loop) → let a = c .before .before .before .args in c .before .loop .at + 1 ≡ length (headersFor (a .t140) (a .t3) (a .count))
 ends c =
     let a = c .before .before .before .args in
     let l = c .before .loop in
-    begun-end (a .t140 ∷ []) (headersFor (a .t140) (a .clock) (a .t4) (a .t5) (a .count)) (now (a .to)) (l .to) (l .at) (left c) (c .before .before .before .pre .2)
+    begun-end (a .t140 ∷ []) (headersFor (a .t140) (a .t3) (a .count)) (now (a .to)) (l .to) (l .at) (left c) (c .before .before .before .pre .2)
 
 whole : (c : tie.After-loop Inv-loop μ-loop) → let a = c .before .before .before .args in
-    set (c .before .loop .to) (c .before .loop .at) (a .t140) ≡ over (headersFor (a .t140) (a .clock) (a .t4) (a .t5) (a .count)) (now (a .to))
+    set (c .before .loop .to) (c .before .loop .at) (a .t140) ≡ over (headersFor (a .t140) (a .t3) (a .count)) (now (a .to))
 whole c =
     let a = c .before .before .before .args in
     let l = c .before .loop in
-    begun-store (a .t140 ∷ []) (headersFor (a .t140) (a .clock) (a .t4) (a .t5) (a .count)) (now (a .to)) (l .to) (l .at) (left c) (c .before .before .before .pre .2) (a .t140) refl
+    begun-store (a .t140 ∷ []) (headersFor (a .t140) (a .t3) (a .count)) (now (a .to)) (l .to) (l .at) (left c) (c .before .before .before .pre .2) (a .t140) refl
 
 loop-holds : tie.Need-loop-holds Inv-loop μ-loop
 unfolding level
 loop-holds c =
     let a = c .before .args in
-    (omega arith, turn-none (headAt (a .t140) (a .clock) (a .t4) (a .t5)) (a .t140 ∷ []) (a .count) (now (a .to)) level (c .before .pre .1))
+    (omega arith, turn-none (headAt (a .t140) (a .t3)) (a .t140 ∷ []) (a .count) (now (a .to)) level (c .before .pre .1))
 
 sub-i : tie.Need-sub-i Inv-loop μ-loop
 sub-i c = c .loop-test .taken
 
-mul-sent : tie.Need-mul-sent Inv-loop μ-loop
+mul-mark : tie.Need-mul-mark Inv-loop μ-loop
 unfolding level
-mul-sent c = search needs
+mul-mark c = search needs
 
-array-read-sent : tie.Need-array-read-sent Inv-loop μ-loop
+array-read-mark : tie.Need-array-read-mark Inv-loop μ-loop
 unfolding level
-array-read-sent c = search needs
-
-mul-len : tie.Need-mul-len Inv-loop μ-loop
-unfolding level
-mul-len c = search needs
-
-array-read-len : tie.Need-array-read-len Inv-loop μ-loop
-unfolding level
-array-read-len c = search needs
+array-read-mark c = search needs
 
 sub-put-head : tie.Need-sub-put-head Inv-loop μ-loop
 sub-put-head c = omega (arith, room (c .before .before), fits c)
@@ -109,7 +101,7 @@ loop-again c =
     let t = c .before .before .before .before in
     let a = t .before .before .before .before .args in
     let l = t .before .before .loop in
-    (omega arith, turn-next (headAt (a .t140) (a .clock) (a .t4) (a .t5)) (a .t140 ∷ []) (a .count) (now (a .to)) (l .to) (l .i) (l .at) (l .inv .1) (t .before .before .before .before .pre .2) (t .before .loop-test .taken) (t .if1 .taken) (q .last .0) (q .ensures))
+    (omega arith, turn-next (headAt (a .t140) (a .t3)) (a .t140 ∷ []) (a .count) (now (a .to)) (l .to) (l .i) (l .at) (l .inv .1) (t .before .before .before .before .pre .2) (t .before .loop-test .taken) (t .if1 .taken) (q .last .0) (q .ensures))
 
 loop-less-2 : tie.Need-loop-less-2 Inv-loop μ-loop
 loop-less-2 c = omega arith
@@ -118,7 +110,7 @@ loop-again-2 : tie.Need-loop-again-2 Inv-loop μ-loop
 loop-again-2 c =
     let a = c .before .before .before .before .args in
     let l = c .before .before .loop in
-    (omega arith, turn-past (headAt (a .t140) (a .clock) (a .t4) (a .t5)) (a .t140 ∷ []) (a .count) (now (a .to)) (l .to) (l .i) (l .at) (l .inv .1) (c .if1 .left))
+    (omega arith, turn-past (headAt (a .t140) (a .t3)) (a .t140 ∷ []) (a .count) (now (a .to)) (l .to) (l .i) (l .at) (l .inv .1) (c .if1 .left))
 
 slice-write-to : tie.Need-slice-write-to Inv-loop μ-loop
 slice-write-to c = omega (arith, room (c .before), ends c)
@@ -126,7 +118,7 @@ slice-write-to c = omega (arith, room (c .before), ends c)
 same-length : tie.Need-same-length Inv-loop μ-loop
 same-length c =
     let a = c .before .before .before .args in
-    ap length (whole c) ∙ length-over (headersFor (a .t140) (a .clock) (a .t4) (a .t5) (a .count)) (now (a .to)) (c .before .before .before .pre .2)
+    ap length (whole c) ∙ length-over (headersFor (a .t140) (a .t3) (a .count)) (now (a .to)) (c .before .before .before .pre .2)
 
 returns : tie.Need-returns Inv-loop μ-loop
 returns c = whole c
@@ -139,10 +131,8 @@ put-heads-spec =
     μ-loop
     loop-holds
     sub-i
-    mul-sent
-    array-read-sent
-    mul-len
-    array-read-len
+    mul-mark
+    array-read-mark
     sub-put-head
     part-put-head-start
     part-put-head-end

@@ -1,5 +1,5 @@
--- The headers of a packet, by the lengths and times of the blocks kept, newest first.
-use Prim.Native.Nat.{ℕ, _+_, _-_, _*_, _%_, min}
+-- The headers of a packet, by the ages and lengths of the blocks kept, newest first.
+use Prim.Native.Nat.{ℕ, _+_, _*_, _/_, _%_, min}
 use mathlib.Core.List.{List, [], _∷_, _++_}
 use mathlib.Core.Bool.{cond}
 use lib.Dec.{ltb, eqb}
@@ -8,19 +8,18 @@ use Rattle.heading.specs.declared.Front.{Front}
 use Rattle.base.specs.Arrays.{over}
 use Rattle.packet_spec.specs.Limits.{level}
 use Rattle.packet_spec.specs.Encoding.{markerBit, fixedHeader, blockHeader}
-use Rattle.sender_spec.specs.Limits.{roomSize}
 use Rattle.heading.specs.internal.LastFirst.{lastFirst}
 
--- a time offset has 14 bits
-abbrev pub offsetOf : ℕ → ℕ → ℕ
-offsetOf t at = (t - at) % 16384
+-- the header of a block, by its age and the bytes of its text, in one number: 14 bits and 8
+abbrev pub headOf : ℕ → ℕ → List ℕ
+headOf t140 m = blockHeader t140 (m / 256 % 16384) (m % 256)
 
-abbrev pub headAt : ℕ → ℕ → List ℕ → List ℕ → ℕ → List ℕ
-headAt t140 t lens ats i = blockHeader t140 (offsetOf t (getD ats i 0)) (min (getD lens i 0) roomSize)
+abbrev pub headAt : ℕ → List ℕ → ℕ → List ℕ
+headAt t140 marks i = headOf t140 (getD marks i 0)
 
 -- the headers of the first n blocks, oldest first, and the primary's
-abbrev pub headersFor : ℕ → ℕ → List ℕ → List ℕ → ℕ → List ℕ
-headersFor t140 t lens ats n = lastFirst (headAt t140 t lens ats) (t140 ∷ []) n
+abbrev pub headersFor : ℕ → List ℕ → ℕ → List ℕ
+headersFor t140 marks n = lastFirst (headAt t140 marks) (t140 ∷ []) n
 
 -- M and the payload type
 abbrev pub secondOf : Front → ℕ
@@ -28,7 +27,7 @@ secondOf f = markerBit (f .marker) + cond (eqb (f .level) 0) (f .t140 % 128) (f 
 
 -- the block headers of a packet that repeats n blocks: none at level 0
 unfoldable pub headsWith : Front → ℕ → List ℕ
-headsWith f n = cond (eqb (f .level) 0) [] (headersFor (f .t140 % 128) (f .clock) (f .lens) (f .ats) n)
+headsWith f n = cond (eqb (f .level) 0) [] (headersFor (f .t140 % 128) (f .marks) n)
 
 -- all its headers
 abbrev pub frontWith : Front → ℕ → List ℕ

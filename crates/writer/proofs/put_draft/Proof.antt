@@ -2,7 +2,7 @@ use Prim.Native.Nat.{ℕ, _+_, _-_, _≤_, min}
 use mathlib.Core.Path.{_≡_, _∙_, ap}
 use mathlib.Core.List.{List, _++_}
 use native.Mathlib.Omega.{arith}
-use lib.ListN.{length, take, length-append}
+use lib.ListN.{length, take, getD, length-append}
 use borrow.Rule.Slice.PartMut.{putMid}
 use denote.Ref.{now}
 use Rattle.base.specs.Arrays.{over}
@@ -12,6 +12,7 @@ use Rattle.packet_spec.specs.Limits.{level}
 use Rattle.sender_spec.specs.Limits.{roomSize}
 use Rattle.sender_spec.specs.Answers.{sent}
 use Rattle.carrying.specs.internal.Young.{youngRun, textTotal}
+use Rattle.carrying.proofs.Marks.{AreMarks, marked-are}
 use Rattle.heading.specs.internal.Headers.{frontWith}
 use Rattle.heading.proofs.Headers.{front-over}
 use Rattle.writer.specs.declared.Draft.{Draft}
@@ -41,6 +42,12 @@ ats-long c = search needs
 run-is : (c : tie.After-run) → let d = made c in c .run .result .count ≡ youngRun (d .clock) (take (min (d .level) (d .count)) (d .ats))
 run-is c = let d = made c in c .run .ensures .0 ∙ ap (λ (m : ℕ). youngRun (d .clock) (take m (d .ats))) (c .before .least .ensures)
 
+-- the marks are those of the blocks
+are : (c : tie.After-run) → let d = made c in AreMarks (d .clock) (d .lens) (d .ats) (c .run .result .count) (c .run .result .marks)
+are c i h =
+    let d = made c in
+    ap (λ (l : List ℕ). getD l i 0) (c .run .ensures .4) ∙ marked-are (d .clock) (d .lens) (d .ats) (lens-long c) (ats-long c) (c .run .result .count) (c .run .ensures .2) i h
+
 -- and so is the length
 size-of : (c : tie.After-size) → let r = c .before .before .before in let d = made r in
     c .size .result ≡ packetSize (d .level) (r .run .result .count) (textTotal (take (r .run .result .count) (d .lens))) (min (d .len) roomSize)
@@ -66,7 +73,7 @@ returns c =
     let r = c .before .before in
     let st = start r in
     let a = st .args in
-    put-quiet (made r) (now (a .texts)) (r .run .result .count) (lens-long r) (ats-long r) (st .pre) (run-is r) (now (a .packet))
+    put-quiet (made r) (now (a .texts)) (r .run .result .count) (lens-long r) (ats-long r) (st .pre) (run-is r) (r .run .result .marks) (are r) (now (a .packet))
     (omega (arith, c .if1 .taken, r .run .ensures .1, c .before .least2 .ensures))
 
 size-requires : tie.Need-size-requires
@@ -83,19 +90,19 @@ returns-2 c =
       answer = clockAnswer (by-short (a .draft .level) n (textTotal (take n (made r .lens))) (min (a .draft .len) roomSize) (s .size .result) (length (now (a .packet))) (size-of s) (c .if2 .taken) i);
       lent = now (a .packet);
     })
-    ∙ put-short (made r) (now (a .texts)) (r .run .result .count) (lens-long r) (ats-long r) (st .pre) (run-is r) (now (a .packet))
+    ∙ put-short (made r) (now (a .texts)) (r .run .result .count) (lens-long r) (ats-long r) (st .pre) (run-is r) (r .run .result .marks) (are r) (now (a .packet))
     (omega (arith, s .before .if1 .left, r .run .ensures .1, s .before .before .least2 .ensures)) (omega (arith, c .if2 .taken, size-of s))
 
 abbrev front : tie.Else2 → List ℕ
 front c =
     let r = c .before .before .before .before in
-    frontWith (frontIn (made r)) (r .run .result .count)
+    frontWith (frontIn (made r) (r .run .result .marks)) (r .run .result .count)
 
 abbrev body : tie.Else2 → List ℕ
 body c =
     let r = c .before .before .before .before in
     let a = start r .args in
-    textsOf (now (a .texts)) (a .draft .room) (made r .lens) (a .draft .len) (r .run .result .count)
+    textsOf (now (a .texts)) (a .draft .room) (r .run .result .marks) (a .draft .len) (r .run .result .count)
 
 -- the headers, and the texts behind them, fit
 room : (c : tie.Else2) → length (front c) + length (body c) ≤ length (now (start (c .before .before .before .before) .args .packet))
@@ -110,26 +117,26 @@ room c =
       arith,
       c .if2 .left,
       size-of s,
-      front-size d x n (lens-long r) (ats-long r) (st .pre) (run-is r),
-      size-is d x n (lens-long r) (ats-long r) (st .pre) (run-is r),
+      front-size d x n (lens-long r) (ats-long r) (st .pre) (run-is r) (r .run .result .marks) (are r),
+      size-is d x n (lens-long r) (ats-long r) (st .pre) (run-is r) (r .run .result .marks) (are r),
     )
 
 -- the headers are written
-fronted : (c : tie.After-put-front) → let e = c .before .before in let a = start (e .before .before .before .before) .args in
+fronted : (c : tie.After-put-front) → let e = c .before .before .before in let a = start (e .before .before .before .before) .args in
     (c .put-front .result ≡ length (front e)) × (c .put-front .last .0 ≡ over (front e) (now (a .packet)))
 fronted c =
-    let e = c .before .before in
+    let e = c .before .before .before in
     let r = e .before .before .before .before in
     let st = start r in
     let d = made r in
     let n = r .run .result .count in
-    front-over (frontIn d) n (c .put-front .result) (now (st .args .packet)) (c .put-front .last .0)
-    (few d (now (st .args .texts)) n (lens-long r) (ats-long r) (st .pre) (run-is r)) (omega (arith, room e)) (c .put-front .ensures)
+    front-over (frontIn d (r .run .result .marks)) n (c .put-front .result) (now (st .args .packet)) (c .put-front .last .0)
+    (few d (now (st .args .texts)) n (lens-long r) (ats-long r) (st .pre) (run-is r) (r .run .result .marks) (are r)) (omega (arith, room e)) (c .put-front .ensures)
 
 -- with room for the texts
-space : (c : tie.After-put-front) → c .put-front .result + length (body (c .before .before)) ≤ length (c .put-front .last .0)
+space : (c : tie.After-put-front) → c .put-front .result + length (body (c .before .before .before)) ≤ length (c .put-front .last .0)
 space c =
-    let e = c .before .before in
+    let e = c .before .before .before in
     let p = now (start (e .before .before .before .before) .args .packet) in
     omega (arith, room e, fronted c .0, ap length (fronted c .1), length-over (front e) p (omega (arith, room e)))
 
@@ -148,36 +155,36 @@ part-put-texts-end c = search needs
 put-texts-requires : tie.Need-put-texts-requires
 put-texts-requires c κs =
     let f = c .before .before .before in
-    let e = f .before .before in
+    let e = f .before .before .before in
     let r = e .before .before .before .before in
     let st = start r in
     let d = made r in
     let n = r .run .result .count in
     let x = now (st .args .texts) in (
       st .pre,
-      few d x n (lens-long r) (ats-long r) (st .pre) (run-is r),
+      few d x n (lens-long r) (ats-long r) (st .pre) (run-is r) (r .run .result .marks) (are r),
       lent-fits (f .put-front .result) (length (body e)) (f .put-front .last .0) (space f),
     )
 
-whole : (c : tie.After-put-texts) → let f = c .before .before .before .before in let e = f .before .before in let r = e .before .before .before .before in let a = start r .args in
+whole : (c : tie.After-put-texts) → let f = c .before .before .before .before in let e = f .before .before .before in let r = e .before .before .before .before in let a = start r .args in
     putMid (f .put-front .result) (length (f .put-front .last .0) - f .put-front .result) (f .put-front .last .0) (c .put-texts .last .0)
-    ≡ over (packetWith (made r) (now (a .texts)) (r .run .result .count)) (now (a .packet))
+    ≡ over (packetWith (made r) (r .run .result .marks) (now (a .texts)) (r .run .result .count)) (now (a .packet))
 whole c =
     let f = c .before .before .before .before in
     let p = f .put-front in
-    let e = f .before .before in
+    let e = f .before .before .before in
     let a = start (e .before .before .before .before) .args in
     wrote-both (front e) (body e) (now (a .packet)) (p .last .0) (c .put-texts .last .0) (p .result) (fronted f .0) (fronted f .1) (room e) (c .put-texts .ensures)
 
 same-length : tie.Need-same-length
 same-length c =
-    let e = c .before .before .before .before .before .before .before .before in
+    let e = c .before .before .before .before .before .before .before .before .before in
     let a = start (e .before .before .before .before) .args in
     ap length (whole (c .before .before)) ∙ length-over (front e ++ body e) (now (a .packet)) (omega (arith, room e, length-append (front e) (body e)))
 
 returns-3 : tie.Need-returns-3
 returns-3 c =
-    let e = c .before .before .before .before .before .before .before .before in
+    let e = c .before .before .before .before .before .before .before .before .before in
     let s = e .before in
     let r = s .before .before .before in
     let st = start r in
@@ -187,8 +194,8 @@ returns-3 c =
       answer = clockAnswer (by-sent (a .draft .level) n (textTotal (take n (made r .lens))) (min (a .draft .len) roomSize) (s .size .result) (length (now (a .packet))) (size-of s) (e .if2 .left) i);
       lent = whole (c .before .before) i;
     })
-    ∙ (λ i. record { answer = sent (size-of s i); lent = over (packetWith (made r) (now (a .texts)) n) (now (a .packet)) })
-    ∙ put-sent (made r) (now (a .texts)) (r .run .result .count) (lens-long r) (ats-long r) (st .pre) (run-is r) (now (a .packet))
+    ∙ (λ i. record { answer = sent (size-of s i); lent = over (packetWith (made r) (r .run .result .marks) (now (a .texts)) n) (now (a .packet)) })
+    ∙ put-sent (made r) (now (a .texts)) (r .run .result .count) (lens-long r) (ats-long r) (st .pre) (run-is r) (r .run .result .marks) (are r) (now (a .packet))
     (omega (arith, s .before .if1 .left, r .run .ensures .1, s .before .before .least2 .ensures)) (omega (arith, e .if2 .left, size-of s))
 
 pub put-draft-spec : {M : Type 1} → statement M

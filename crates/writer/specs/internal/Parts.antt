@@ -1,5 +1,5 @@
--- What the parts of a packet come to, by the lengths and times of the blocks kept, newest first.
-use Prim.Native.Nat.{ℕ, suc, _+_, _*_}
+-- What the parts of a packet come to, by the ages and lengths of the blocks kept, newest first.
+use Prim.Native.Nat.{ℕ, suc, _+_, _*_, _%_}
 use mathlib.Core.List.{List, _++_}
 use mathlib.Core.Bool.{cond}
 use lib.Dec.{eqb}
@@ -11,7 +11,7 @@ use Rattle.heading.specs.internal.Headers.{frontWith}
 use Rattle.slots.specs.Slots.{slotOf, slotText}
 
 abbrev pub textAt : List ℕ → ℕ → List ℕ → ℕ → List ℕ
-textAt texts room lens i = slotText texts (slotOf room (suc i)) (getD lens i 0)
+textAt texts room marks i = slotText texts (slotOf room (suc i)) (getD marks i 0 % 256)
 
 -- what waits, no packet back
 abbrev pub waitingAt : List ℕ → ℕ → ℕ → List ℕ
@@ -19,11 +19,11 @@ waitingAt texts room len = slotText texts (slotOf room 0) len
 
 -- the texts of the first n blocks, oldest first, and what waits
 abbrev pub textsOf : List ℕ → ℕ → List ℕ → ℕ → ℕ → List ℕ
-textsOf texts room lens len n = lastFirst (textAt texts room lens) (waitingAt texts room len) n
+textsOf texts room marks len n = lastFirst (textAt texts room marks) (waitingAt texts room len) n
 
 -- what the headers are written from
-abbrev pub frontIn : Draft → Front
-frontIn d = record {
+abbrev pub frontIn : Draft → List ℕ → Front
+frontIn d marks = record {
   level = d .level;
   t140 = d .t140;
   red = d .red;
@@ -31,14 +31,12 @@ frontIn d = record {
   sequence = d .sequence;
   timestamp = d .timestamp;
   source = d .source;
-  clock = d .clock;
-  lens = d .lens;
-  ats = d .ats;
+  marks = marks;
 }
 
 -- a packet that repeats n blocks
-abbrev pub packetWith : Draft → List ℕ → ℕ → List ℕ
-packetWith d texts n = frontWith (frontIn d) n ++ textsOf texts (d .room) (d .lens) (d .len) n
+abbrev pub packetWith : Draft → List ℕ → List ℕ → ℕ → List ℕ
+packetWith d marks texts n = frontWith (frontIn d marks) n ++ textsOf texts (d .room) marks (d .len) n
 
 -- its length, by the bytes of its older texts and of its primary
 abbrev pub packetSize : ℕ → ℕ → ℕ → ℕ → ℕ

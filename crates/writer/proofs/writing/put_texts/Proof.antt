@@ -3,7 +3,7 @@ use Rattle.base.specs.Arrays.{over}
 use Rattle.base.proofs.Lent.{length-over}
 use Rattle.base.proofs.Written.{Begun, begun-end, begun-last, lent-fits}
 use Rattle.slots.specs.Slots.{slotOf, slotText}
-use Prim.Native.Nat.{ℕ, suc, _+_, _-_, _≤_}
+use Prim.Native.Nat.{ℕ, suc, _+_, _-_, _%_, _≤_}
 use mathlib.Core.Path.{_≡_, _∙_, ap}
 use mathlib.Core.List.{List}
 use native.Mathlib.Omega.{arith}
@@ -17,10 +17,10 @@ use Rattle.writer.proofs.writing.put_texts.Statement.{statement}
 use Rattle.writer.proofs.writing.put_texts.Tie as tie
 
 abbrev Inv-loop : tie.InvT-loop
-Inv-loop to₀ texts room len count lens i₀ at₀ to i at = (i ≤ level) × Turn (textAt texts room lens) (waitingAt texts room len) count to₀ to i at
+Inv-loop to₀ texts room len count marks i₀ at₀ to i at = (i ≤ level) × Turn (textAt texts room marks) (waitingAt texts room len) count to₀ to i at
 
 abbrev μ-loop : tie.MeasureT-loop
-μ-loop to₀ texts room len count lens i₀ at₀ to i at = i
+μ-loop to₀ texts room len count marks i₀ at₀ to i at = i
 
 -- the space is as long as it was
 room : (c : tie.At-loop Inv-loop μ-loop) → length (c .loop .to) ≡ length (now (c .before .before .before .args .to))
@@ -33,12 +33,12 @@ abbrev block : tie.Then1 Inv-loop μ-loop → List ℕ
 block c = let a = c .before .before .before .before .before .args in textAt (now (a .texts)) (a .room) (a .t4) (c .before .before .loop .i - 1)
 
 text : (c : tie.Then1 Inv-loop μ-loop) → let a = c .before .before .before .before .before .args in let i = c .before .before .loop .i in
-    slotText (now (a .texts)) (slotOf (a .room) i) (getD (a .t4) (i - 1) 0) ≡ block c
+    slotText (now (a .texts)) (slotOf (a .room) i) (getD (a .t4) (i - 1) 0 % 256) ≡ block c
 text c =
     let a = c .before .before .before .before .before .args in
     let i = c .before .before .loop .i in
     let e : i ≡ suc (i - 1) = omega (arith, c .before .loop-test .taken) in
-    ap (λ (back : ℕ). slotText (now (a .texts)) (slotOf (a .room) back) (getD (a .t4) (i - 1) 0)) e
+    ap (λ (back : ℕ). slotText (now (a .texts)) (slotOf (a .room) back) (getD (a .t4) (i - 1) 0 % 256)) e
 
 -- the next text fits
 fits : (c : tie.Then1 Inv-loop μ-loop) → let l = c .before .before .loop in l .at + length (block c) ≤ length (l .to)
@@ -81,12 +81,12 @@ loop-holds c =
 sub-i : tie.Need-sub-i Inv-loop μ-loop
 sub-i c = c .loop-test .taken
 
-mul-n : tie.Need-mul-n Inv-loop μ-loop
-mul-n c = search needs
+mul-mark : tie.Need-mul-mark Inv-loop μ-loop
+mul-mark c = search needs
 
-array-read-n : tie.Need-array-read-n Inv-loop μ-loop
+array-read-mark : tie.Need-array-read-mark Inv-loop μ-loop
 unfolding level
-array-read-n c = search needs
+array-read-mark c = search needs
 
 sub-put-text : tie.Need-sub-put-text Inv-loop μ-loop
 sub-put-text c = omega (arith, fits c)
@@ -165,8 +165,8 @@ put-texts-spec =
     μ-loop
     loop-holds
     sub-i
-    mul-n
-    array-read-n
+    mul-mark
+    array-read-mark
     sub-put-text
     part-put-text-start
     part-put-text-end
