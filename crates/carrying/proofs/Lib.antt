@@ -1,3 +1,3 @@
-pub mod Marks
+pub mod Tags
 pub mod YoungRun
 pub mod TextTotal

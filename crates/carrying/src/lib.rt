@@ -4,7 +4,7 @@ ghost use Prim.Native.Nat.{_*_, _≤_};
 ghost use lib.ListN.{take};
 ghost use Rattle.packet_spec.specs.Limits.{level};
 ghost use Rattle.sender_spec.specs.Limits.{roomSize};
-ghost use Rattle.carrying.specs.internal.Young.{young, youngRun, textTotal, marked};
+ghost use Rattle.carrying.specs.internal.Young.{young, youngRun, textTotal, tagged};
 use packet::Packet;
 
 // The limits of a block that is written.
@@ -18,11 +18,12 @@ impl Block {
     pub const OLDEST: u64 = 16383;
 }
 
-// How many older blocks a packet carries, the bytes of their texts, and of each its age and the bytes of its text, in one number.
+// How many older blocks a packet carries, the bytes of their texts, and a tag of each: its age and the bytes of its text, in one
+// number.
 pub struct Carried {
     pub count: usize,
     pub text: usize,
-    pub marks: [u64; Packet::LEVEL],
+    pub tags: [u64; Packet::LEVEL],
 }
 
 fn is_young(clock: u64, at: u64) -> bool
@@ -38,25 +39,25 @@ pub fn run(
     most: usize,
     clock: u64,
 ) -> Carried
-    ensures { λ r. ⌜ (r .count ≡ youngRun clock (take most ats)) × (r .text ≡ textTotal (take (r .count) lens)) × (r .count ≤ level) × (r .text ≤ roomSize * level) × (r .marks ≡ marked clock lens ats (r .count)) ⌝ }
+    ensures { λ r. ⌜ (r .count ≡ youngRun clock (take most ats)) × (r .text ≡ textTotal (take (r .count) lens)) × (r .count ≤ level) × (r .text ≤ roomSize * level) × (r .tags ≡ tagged clock lens ats (r .count)) ⌝ }
 {
     let mut count = 0;
     let mut text = 0;
-    let mut marks = [0u64; Packet::LEVEL];
+    let mut tags = [0u64; Packet::LEVEL];
     while count < Packet::LEVEL {
         if count == most {
-            return Carried { count, text, marks };
+            return Carried { count, text, tags };
         }
         let sent = ats[count];
         if !is_young(clock, sent) {
-            return Carried { count, text, marks };
+            return Carried { count, text, tags };
         }
         let len = lens[count];
         let size = numbers::least(len, Block::ROOM);
         let age = numbers::passed(clock, sent);
-        marks[count] = age * 256 + size as u64;
+        tags[count] = age * 256 + size as u64;
         text += size;
         count += 1;
     }
-    Carried { count, text, marks }
+    Carried { count, text, tags }
 }

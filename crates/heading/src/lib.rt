@@ -10,8 +10,8 @@ ghost use Rattle.packet_spec.specs.Encoding.{markerBit, fixedHeader};
 ghost use Rattle.heading.specs.internal.Headers.{headOf, headersFor, frontWith, frontSize, frontOf, headersPlaced};
 use packet::Packet;
 
-// What the headers are written from: the header's values, and of each block kept, newest first, its age and the bytes of its
-// text, in one number.
+// What the headers are written from: the header's values, and the tags of the blocks, newest first: age and bytes of text, in one
+// number.
 pub struct Front {
     pub level: usize,
     pub t140: u8,
@@ -20,7 +20,7 @@ pub struct Front {
     pub sequence: u16,
     pub timestamp: u32,
     pub source: u32,
-    pub marks: [u64; Packet::LEVEL],
+    pub tags: [u64; Packet::LEVEL],
 }
 
 // The headers of a packet that repeats the first `count` blocks, where the space holds them; their length.
@@ -57,9 +57,9 @@ fn put_all(to: &mut [u8], front: Front, count: usize)
     if repeats == 0 {
         return;
     }
-    let marks = front.marks;
+    let tags = front.tags;
     let t140 = front.t140 % 128;
-    put_heads(&mut to[12..], t140, marks, count);
+    put_heads(&mut to[12..], t140, tags, count);
 }
 
 fn kind(repeats: usize, t140: u8, red: u8) -> u8
@@ -103,17 +103,17 @@ fn put_header(to: &mut [u8], second: u8, sequence: u16, timestamp: u32, source: 
 
 // The headers of the first `count` blocks, the last of them first, and the primary's. The loop has a fixed number of turns and
 // no `continue`, so that it is unrolled and no array is copied.
-fn put_heads(to: &mut [u8], t140: u8, marks: [u64; Packet::LEVEL], count: usize)
-    requires { ⌜ (t140 < 128) × (count ≤ level) × (length (headersFor t140 marks count) ≤ length (now to)) ⌝ }
-    ensures { λ _. ⌜ now (to .exit) ≡ over (headersFor t140 marks count) (now (to .entry)) ⌝ }
+fn put_heads(to: &mut [u8], t140: u8, tags: [u64; Packet::LEVEL], count: usize)
+    requires { ⌜ (t140 < 128) × (count ≤ level) × (length (headersFor t140 tags count) ≤ length (now to)) ⌝ }
+    ensures { λ _. ⌜ now (to .exit) ≡ over (headersFor t140 tags count) (now (to .entry)) ⌝ }
 {
     let mut i = Packet::LEVEL;
     let mut at = 0;
     while 0 < i {
         i -= 1;
         if i < count {
-            let mark = marks[i];
-            put_head(&mut to[at..], t140, mark);
+            let tag = tags[i];
+            put_head(&mut to[at..], t140, tag);
             at += 4;
         }
     }
@@ -121,12 +121,12 @@ fn put_heads(to: &mut [u8], t140: u8, marks: [u64; Packet::LEVEL], count: usize)
 }
 
 // The header of an older block, of 4 bytes.
-fn put_head(to: &mut [u8], t140: u8, mark: u64)
+fn put_head(to: &mut [u8], t140: u8, tag: u64)
     requires { ⌜ (t140 < 128) × (4 ≤ length (now to)) ⌝ }
-    ensures { λ _. ⌜ now (to .exit) ≡ over (headOf t140 mark) (now (to .entry)) ⌝ }
+    ensures { λ _. ⌜ now (to .exit) ≡ over (headOf t140 tag) (now (to .entry)) ⌝ }
 {
-    let offset = mark / 256 % 16384;
-    let size = mark % 256;
+    let offset = tag / 256 % 16384;
+    let size = tag % 256;
     to[0] = 128 + t140;
     to[1] = (offset / 64) as u8;
     to[2] = (offset % 64 * 4 + size / 256) as u8;

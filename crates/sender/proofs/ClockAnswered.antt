@@ -166,7 +166,7 @@ module _ (s : Sender) (texts log : List ℕ) (t : ℕ) (p : List ℕ) where
         behind (Sent l) long = ap (λ (x : State.Sender). record { answer = sent l; sender = x; lent = p' }) (after-is s texts log t size (long tt) passed)
 
     -- the same of a draft by what the code counts: c characters wait, of which g may go, in m bytes
-    module _ (c g m : ℕ) (marked : Bool) (counted : c ≡ min (s .waiting .characters) roomSize) (allowed : g ≡ Rate.allowed (slotsOf (s .settings .rate)) (state .times) t c) (taken : m ≡ takenBytes texts (s .waiting) c g) (marks : marked ≡ markerDue s m) where
+    module _ (c g m : ℕ) (tagged : Bool) (counted : c ≡ min (s .waiting .characters) roomSize) (allowed : g ≡ Rate.allowed (slotsOf (s .settings .rate)) (state .times) t c) (taken : m ≡ takenBytes texts (s .waiting) c g) (tags : tagged ≡ markerDue s m) where
       going-is : g ≡ k
       going-is = allowed ∙ (λ i. Rate.allowed (slots-limit (s .settings .rate) (passed .rated .1) i) (state .times) t (counted i))
 
@@ -179,11 +179,11 @@ module _ (s : Sender) (texts log : List ℕ) (t : ℕ) (p : List ℕ) where
           go true = sym (waiting-length texts size (s .waiting .room) (s .waiting .len))
           go false = refl
 
-      pub put-is : (r : Answer) (texts' log' p' : List ℕ) → (Holds (isSent r) → length log ≡ logSize) → record { answer = clockAnswer r; lent = p' } ≡ putOf (draftOf s t marked m) texts p
+      pub put-is : (r : Answer) (texts' log' p' : List ℕ) → (Holds (isSent r) → length log ≡ logSize) → record { answer = clockAnswer r; lent = p' } ≡ putOf (draftOf s t tagged m) texts p
           → texts' ≡ textsBehind r s texts m → log' ≡ logBehind r s log t g → Clocks s texts log t p r (recordBehind r s t m g (paceBehind s g)) texts' log' p'
       put-is r texts' log' p' long e same there =
           subst (λ (l : List ℕ). Clocks s texts log t p r (recordBehind r s t m g (paceBehind s g)) texts' l p') (sym there)
           (subst (λ (l : List ℕ). Clocks s texts log t p r (recordBehind r s t m g (paceBehind s g)) l (logBehind r s log t g) p') (sym same)
           (subst (λ (i : ℕ). Clocks s texts log t p r (recordBehind r s t m i (paceBehind s i)) (textsBehind r s texts m) (logBehind r s log t i) p') (sym going-is)
           (subst (λ (i : ℕ). Clocks s texts log t p r (recordBehind r s t i k (paceBehind s k)) (textsBehind r s texts i) (logBehind r s log t k) p') (sym taken-is)
-          (answered-is r p' long (e ∙ (λ i. putOf (draftOf s t (marks i) m) texts p) ∙ ap (λ (i : ℕ). putOf (draftOf s t (markerDue s i) i) texts p) taken-is)))))
+          (answered-is r p' long (e ∙ (λ i. putOf (draftOf s t (tags i) m) texts p) ∙ ap (λ (i : ℕ). putOf (draftOf s t (markerDue s i) i) texts p) taken-is)))))

@@ -16,7 +16,7 @@ use Rattle.sender_spec.specs.Limits.{roomSize}
 use Rattle.sender_spec.specs.Answers.{refused, quiet, sent}
 use Rattle.writer.specs.Draft.{Result, answerBy, putOf}
 use Rattle.carrying.specs.internal.Young.{youngRun, textTotal}
-use Rattle.carrying.proofs.Marks.{AreMarks}
+use Rattle.carrying.proofs.Tags.{AreTags}
 use Rattle.slots.specs.Slots.{textsSize}
 use Rattle.writer.specs.internal.Parts.{packetWith, packetSize}
 use Rattle.writer.proofs.PacketByParts.{packet-is, size-is, some-is}
@@ -41,26 +41,26 @@ put some few n w p =
     cond some (cond few (record { answer = refused 8; lent = p }) (record { answer = sent n; lent = w })) (record { answer = quiet; lent = p })
 
 module _ (d : Draft) (texts : List ℕ) (n : ℕ) (lens : length (d .lens) ≡ level) (ats : length (d .ats) ≡ level)
-    (whole : length texts ≡ textsSize) (run : n ≡ youngRun (d .clock) (take (min (d .level) (d .count)) (d .ats))) (marks : List ℕ) (are : AreMarks (d .clock) (d .lens) (d .ats) n marks) (p : List ℕ) where
+    (whole : length texts ≡ textsSize) (run : n ≡ youngRun (d .clock) (take (min (d .level) (d .count)) (d .ats))) (tags : List ℕ) (are : AreTags (d .clock) (d .lens) (d .ats) n tags) (p : List ℕ) where
   abbrev text : ℕ
   text = textTotal (take n (d .lens)) + min (d .len) roomSize
 
   abbrev size : ℕ
   size = packetSize (d .level) n (textTotal (take n (d .lens))) (min (d .len) roomSize)
 
-  put-is : putOf d texts p ≡ put (ltb 0 text) (ltb (length p) size) size (over (packetWith d marks texts n) p) p
+  put-is : putOf d texts p ≡ put (ltb 0 text) (ltb (length p) size) size (over (packetWith d tags texts n) p) p
   unfolding putOf
   put-is = λ i.
-      put (some-is d texts n lens ats whole run marks are i) (ltb (length p) (size-is d texts n lens ats whole run marks are i)) (size-is d texts n lens ats whole run marks are i)
-      (over (sym (packet-is d texts n lens ats whole run marks are) i) p) p
+      put (some-is d texts n lens ats whole run tags are i) (ltb (length p) (size-is d texts n lens ats whole run tags are i)) (size-is d texts n lens ats whole run tags are i)
+      (over (sym (packet-is d texts n lens ats whole run tags are) i) p) p
 
   pub put-quiet : text ≡ 0 → record { answer = quiet; lent = p } ≡ putOf d texts p
-  put-quiet h = sym (put-is ∙ ap (λ (b : Bool). put b (ltb (length p) size) size (over (packetWith d marks texts n) p) p) (le-ltb 0 text (omega arith)))
+  put-quiet h = sym (put-is ∙ ap (λ (b : Bool). put b (ltb (length p) size) size (over (packetWith d tags texts n) p) p) (le-ltb 0 text (omega arith)))
 
   pub put-short : 0 < text → length p < size → record { answer = refused 8; lent = p } ≡ putOf d texts p
   put-short h k =
-      sym (put-is ∙ (λ i. put (lt-ltb 0 text h i) (lt-ltb (length p) size k i) size (over (packetWith d marks texts n) p) p))
+      sym (put-is ∙ (λ i. put (lt-ltb 0 text h i) (lt-ltb (length p) size k i) size (over (packetWith d tags texts n) p) p))
 
-  pub put-sent : 0 < text → size ≤ length p → record { answer = sent size; lent = over (packetWith d marks texts n) p } ≡ putOf d texts p
+  pub put-sent : 0 < text → size ≤ length p → record { answer = sent size; lent = over (packetWith d tags texts n) p } ≡ putOf d texts p
   put-sent h k =
-      sym (put-is ∙ (λ i. put (lt-ltb 0 text h i) (le-ltb (length p) size k i) size (over (packetWith d marks texts n) p) p))
+      sym (put-is ∙ (λ i. put (lt-ltb 0 text h i) (le-ltb (length p) size k i) size (over (packetWith d tags texts n) p) p))

@@ -19,7 +19,7 @@ use Rattle.slots.specs.Slots.{slotOf, slotText, textsSize}
 use Rattle.writer.specs.Draft.{blocksFrom}
 use Rattle.carrying.specs.internal.Young.{young, youngRun, textTotal}
 use Rattle.carrying.proofs.YoungRun.{AllYoung}
-use Rattle.carrying.proofs.Marks.{AreMarks, mark-age, mark-len}
+use Rattle.carrying.proofs.Tags.{AreTags, tag-age, tag-len}
 use Rattle.heading.specs.internal.LastFirst.{lastFirst}
 use Rattle.heading.specs.internal.Headers.{headAt, headersFor}
 use Rattle.heading.proofs.LastFirst.{last-none, last-more}
@@ -113,26 +113,26 @@ module _ (texts : List ℕ) (room : ℕ) where
         reverse-more kept n none (omega (arith, blocks-length lens ats 1 same))
         ∙ ap (λ (b : SentBlock). b ∷ reverse (take n kept)) (blocks-at lens ats 1 n none (omega arith) h ∙ ap (λ (b : ℕ). block texts room b (getD lens n 0) (getD ats n 0)) e)
 
-    pub kept-heads : length texts ≡ textsSize → (marks : List ℕ) (t140 n : ℕ) → n ≤ length ats → AllYoung t ats n → AreMarks t lens ats n marks
-        → headsBytes t140 (map (repeated t) (reverse (take n kept))) ≡ headersFor t140 marks n
-    kept-heads whole marks t140 zero h all are = sym (last-none (headAt t140 marks) (t140 ∷ []))
-    kept-heads whole marks t140 (suc n) h all are =
-        let m = getD marks n 0 in
+    pub kept-heads : length texts ≡ textsSize → (tags : List ℕ) (t140 n : ℕ) → n ≤ length ats → AllYoung t ats n → AreTags t lens ats n tags
+        → headsBytes t140 (map (repeated t) (reverse (take n kept))) ≡ headersFor t140 tags n
+    kept-heads whole tags t140 zero h all are = sym (last-none (headAt t140 tags) (t140 ∷ []))
+    kept-heads whole tags t140 (suc n) h all are =
+        let m = getD tags n 0 in
         let e = are n (omega arith) in
-        let age : t - getD ats n 0 ≡ m / 256 % 16384 = sym (ap (λ (k : ℕ). k / 256 % 16384) e ∙ mark-age t (getD lens n 0) (getD ats n 0) (all n (omega arith))) in
+        let age : t - getD ats n 0 ≡ m / 256 % 16384 = sym (ap (λ (k : ℕ). k / 256 % 16384) e ∙ tag-age t (getD lens n 0) (getD ats n 0) (all n (omega arith))) in
         let size : length (slotText texts (slotOf room (suc n)) (getD lens n 0)) ≡ m % 256 =
-        kept-length texts whole room (suc n) (getD lens n 0) ∙ sym (ap (λ (k : ℕ). k % 256) e ∙ mark-len t (getD lens n 0) (getD ats n 0)) in
+        kept-length texts whole room (suc n) (getD lens n 0) ∙ sym (ap (λ (k : ℕ). k % 256) e ∙ tag-len t (getD lens n 0) (getD ats n 0)) in
         ap (λ (l : List SentBlock). headsBytes t140 (map (repeated t) l)) (last-kept n h)
-        ∙ (λ i. blockHeader t140 (age i) (size i) ++ kept-heads whole marks t140 n (omega arith) (λ j k. all j (omega (arith, k))) (λ j k. are j (omega (arith, k))) i)
-        ∙ sym (last-more (headAt t140 marks) (t140 ∷ []) n)
+        ∙ (λ i. blockHeader t140 (age i) (size i) ++ kept-heads whole tags t140 n (omega arith) (λ j k. all j (omega (arith, k))) (λ j k. are j (omega (arith, k))) i)
+        ∙ sym (last-more (headAt t140 tags) (t140 ∷ []) n)
 
-    pub kept-texts : (marks x : List ℕ) (n : ℕ) → n ≤ length ats → AreMarks t lens ats n marks
-        → joined (blocksOf (map (repeated t) (reverse (take n kept))) x) ≡ lastFirst (textAt texts room marks) x n
-    kept-texts marks x zero h are = append-nil x ∙ sym (last-none (textAt texts room marks) x)
-    kept-texts marks x (suc n) h are =
-        let m = getD marks n 0 in
-        let e : m % 256 ≡ min (getD lens n 0) roomSize = ap (λ (k : ℕ). k % 256) (are n (omega arith)) ∙ mark-len t (getD lens n 0) (getD ats n 0) in
+    pub kept-texts : (tags x : List ℕ) (n : ℕ) → n ≤ length ats → AreTags t lens ats n tags
+        → joined (blocksOf (map (repeated t) (reverse (take n kept))) x) ≡ lastFirst (textAt texts room tags) x n
+    kept-texts tags x zero h are = append-nil x ∙ sym (last-none (textAt texts room tags) x)
+    kept-texts tags x (suc n) h are =
+        let m = getD tags n 0 in
+        let e : m % 256 ≡ min (getD lens n 0) roomSize = ap (λ (k : ℕ). k % 256) (are n (omega arith)) ∙ tag-len t (getD lens n 0) (getD ats n 0) in
         let f : min (getD lens n 0) roomSize ≡ min (m % 256) roomSize = omega (arith, e) in
         ap (λ (l : List SentBlock). joined (blocksOf (map (repeated t) l) x)) (last-kept n h)
-        ∙ (λ i. take (f i) (drop (slotOf room (suc n) * roomSize) texts) ++ kept-texts marks x n (omega arith) (λ j k. are j (omega (arith, k))) i)
-        ∙ sym (last-more (textAt texts room marks) x n)
+        ∙ (λ i. take (f i) (drop (slotOf room (suc n) * roomSize) texts) ++ kept-texts tags x n (omega arith) (λ j k. are j (omega (arith, k))) i)
+        ∙ sym (last-more (textAt texts room tags) x n)

@@ -17,7 +17,7 @@ use Rattle.sender_spec.specs.State.{SentBlock, hasText}
 use Rattle.sender_spec.specs.Packets.{recentRun, anyText, repeated}
 use Rattle.writer.specs.Draft.{blocksFrom, carriedBy, draftPrimary, draftPacket}
 use Rattle.carrying.specs.internal.Young.{youngRun, textTotal}
-use Rattle.carrying.proofs.Marks.{AreMarks}
+use Rattle.carrying.proofs.Tags.{AreTags}
 use Rattle.carrying.proofs.YoungRun.{AllYoung, run-few, run-young}
 use Rattle.heading.specs.internal.LastFirst.{lastFirst}
 use Rattle.heading.specs.internal.Headers.{headersFor, headsWith, frontWith}
@@ -31,7 +31,7 @@ use Rattle.writer.proofs.KeptBlocks.{take-least, run-front, some-text, 
 
 -- where the packet repeats n blocks
 module _ (d : Draft) (texts : List ℕ) (n : ℕ) (lens : length (d .lens) ≡ level) (ats : length (d .ats) ≡ level)
-    (whole : length texts ≡ textsSize) (run : n ≡ youngRun (d .clock) (take (min (d .level) (d .count)) (d .ats))) (marks : List ℕ) (are : AreMarks (d .clock) (d .lens) (d .ats) n marks) where
+    (whole : length texts ≡ textsSize) (run : n ≡ youngRun (d .clock) (take (min (d .level) (d .count)) (d .ats))) (tags : List ℕ) (are : AreTags (d .clock) (d .lens) (d .ats) n tags) where
   abbrev most : ℕ
   most = min (d .level) (d .count)
 
@@ -63,21 +63,21 @@ module _ (d : Draft) (texts : List ℕ) (n : ℕ) (lens : length (d .lens) ≡ l
   abbrev older : List SentBlock → List ℕ → List ℕ
   older bs x = headsBytes (d .t140 % 128) (map (repeated (d .clock)) (reverse bs)) ++ joined (blocksOf (map (repeated (d .clock)) (reverse bs)) x)
 
-  parts : older (carriedBy d texts) (draftPrimary d texts) ≡ headersFor (d .t140 % 128) marks n ++ textsOf texts (d .room) marks (d .len) n
+  parts : older (carriedBy d texts) (draftPrimary d texts) ≡ headersFor (d .t140 % 128) tags n ++ textsOf texts (d .room) tags (d .len) n
   parts =
       let h : n ≤ length (d .ats) = omega (arith, few) in
       ap (λ (bs : List SentBlock). older bs (draftPrimary d texts)) front
-      ∙ (λ i. kept-heads texts (d .room) (d .clock) (d .lens) (d .ats) same whole marks (d .t140 % 128) n h all-young are i ++ kept-texts texts (d .room) (d .clock) (d .lens) (d .ats) same marks (draftPrimary d texts) n h are i)
-      ∙ ap (λ (x : List ℕ). headersFor (d .t140 % 128) marks n ++ lastFirst (textAt texts (d .room) marks) x n) (sym waiting)
+      ∙ (λ i. kept-heads texts (d .room) (d .clock) (d .lens) (d .ats) same whole tags (d .t140 % 128) n h all-young are i ++ kept-texts texts (d .room) (d .clock) (d .lens) (d .ats) same tags (draftPrimary d texts) n h are i)
+      ∙ ap (λ (x : List ℕ). headersFor (d .t140 % 128) tags n ++ lastFirst (textAt texts (d .room) tags) x n) (sym waiting)
 
   -- at level 0 no block is repeated
-  plain : eqb (d .level) 0 ≡ true → textsOf texts (d .room) marks (d .len) n ≡ draftPrimary d texts
+  plain : eqb (d .level) 0 ≡ true → textsOf texts (d .room) tags (d .len) n ≡ draftPrimary d texts
   plain e =
       let f : d .level ≡ 0 = eqb-true (d .level) 0 e in
       let z : n ≡ 0 = omega (arith, run-few (d .clock) (take most (d .ats)), length-take most (d .ats)) in
-      ap (lastFirst (textAt texts (d .room) marks) (waitingAt texts (d .room) (d .len))) z ∙ last-none (textAt texts (d .room) marks) (waitingAt texts (d .room) (d .len)) ∙ waiting
+      ap (lastFirst (textAt texts (d .room) tags) (waitingAt texts (d .room) (d .len))) z ∙ last-none (textAt texts (d .room) tags) (waitingAt texts (d .room) (d .len)) ∙ waiting
 
-  pub packet-is : packetWith d marks texts n ≡ draftPacket d texts
+  pub packet-is : packetWith d tags texts n ≡ draftPacket d texts
   unfolding headsWith
   packet-is = go (eqb (d .level) 0) refl
     where
@@ -85,21 +85,21 @@ module _ (d : Draft) (texts : List ℕ) (n : ℕ) (lens : length (d .lens) ≡ l
       header type = fixedHeader (markerBit (d .marker) + type) (d .sequence) (d .timestamp) (d .source)
 
       go : (b : Bool) → eqb (d .level) 0 ≡ b
-          → header (cond b (d .t140 % 128) (d .red % 128)) ++ (cond b [] (headersFor (d .t140 % 128) marks n) ++ textsOf texts (d .room) marks (d .len) n)
+          → header (cond b (d .t140 % 128) (d .red % 128)) ++ (cond b [] (headersFor (d .t140 % 128) tags n) ++ textsOf texts (d .room) tags (d .len) n)
           ≡ cond b (header (d .t140 % 128) ++ draftPrimary d texts) (header (d .red % 128) ++ older (carriedBy d texts) (draftPrimary d texts))
       go true e = ap (λ (l : List ℕ). header (d .t140 % 128) ++ l) (plain e)
       go false e = ap (λ (l : List ℕ). header (d .red % 128) ++ l) (sym parts)
 
   abbrev texted : List ℕ
-  texted = textsOf texts (d .room) marks (d .len) n
+  texted = textsOf texts (d .room) tags (d .len) n
 
-  pub front-size : length (frontWith (frontIn d marks) n) + length texted ≡ length (draftPacket d texts)
-  front-size = sym (length-append (frontWith (frontIn d marks) n) texted) ∙ ap length packet-is
+  pub front-size : length (frontWith (frontIn d tags) n) + length texted ≡ length (draftPacket d texts)
+  front-size = sym (length-append (frontWith (frontIn d tags) n) texted) ∙ ap length packet-is
 
   pub size-is : length (draftPacket d texts) ≡ packetSize (d .level) n (textTotal (take n (d .lens))) (min (d .len) roomSize)
   size-is =
-      sym front-size ∙ ap (λ (k : ℕ). k + length texted) (Headers.front-size (frontIn d marks) n)
-      ∙ go (eqb (d .level) 0) refl (texts-size texts whole (d .room) (d .clock) (d .lens) (d .ats) marks (d .len) n (omega (arith, few)) are)
+      sym front-size ∙ ap (λ (k : ℕ). k + length texted) (Headers.front-size (frontIn d tags) n)
+      ∙ go (eqb (d .level) 0) refl (texts-size texts whole (d .room) (d .clock) (d .lens) (d .ats) tags (d .len) n (omega (arith, few)) are)
     where
       go : (b : Bool) → eqb (d .level) 0 ≡ b → length texted ≡ textTotal (take n (d .lens)) + min (d .len) roomSize
           → cond b 12 (12 + (4 * n + 1)) + length texted ≡ cond b (12 + min (d .len) roomSize) (12 + (4 * n + 1 + (textTotal (take n (d .lens)) + min (d .len) roomSize)))

@@ -101,7 +101,7 @@ fn put_draft(packet: &mut [u8], texts: &[u8], draft: Draft) -> usize
     if packet.len() < size {
         return size;
     }
-    let marks = carried.marks;
+    let tags = carried.tags;
     let front = Front {
         level: draft.level,
         t140: draft.t140,
@@ -110,14 +110,14 @@ fn put_draft(packet: &mut [u8], texts: &[u8], draft: Draft) -> usize
         sequence: draft.sequence,
         timestamp: draft.timestamp,
         source: draft.source,
-        marks,
+        tags,
     };
     let at = heading::put_front(packet, front, carried.count);
     writing::put_texts(
         &mut packet[at..],
         texts,
         draft.room,
-        marks,
+        tags,
         draft.len,
         carried.count,
     );

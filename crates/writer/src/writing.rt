@@ -62,12 +62,12 @@ pub fn put_texts(
     to: &mut [u8],
     texts: &[u8],
     room: usize,
-    marks: [u64; Packet::LEVEL],
+    tags: [u64; Packet::LEVEL],
     len: usize,
     count: usize,
 )
-    requires { ⌜ (length (now texts) ≡ textsSize) × (count ≤ level) × (length (textsOf (now texts) room marks len count) ≤ length (now to)) ⌝ }
-    ensures { λ _. ⌜ now (to .exit) ≡ over (textsOf (now (texts .entry)) room marks len count) (now (to .entry)) ⌝ }
+    requires { ⌜ (length (now texts) ≡ textsSize) × (count ≤ level) × (length (textsOf (now texts) room tags len count) ≤ length (now to)) ⌝ }
+    ensures { λ _. ⌜ now (to .exit) ≡ over (textsOf (now (texts .entry)) room tags len count) (now (to .entry)) ⌝ }
 {
     let mut i = Packet::LEVEL;
     let mut at = 0;
@@ -75,8 +75,8 @@ pub fn put_texts(
         let back = i;
         i -= 1;
         if i < count {
-            let mark = marks[i];
-            let n = (mark % 256) as usize;
+            let tag = tags[i];
+            let n = (tag % 256) as usize;
             at += put_text(&mut to[at..], texts, room, back, n);
         }
     }

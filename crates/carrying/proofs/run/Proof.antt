@@ -8,21 +8,21 @@ use borrow.Author.Needs.{needs}
 use borrow.Author.Tests.{not-true, not-false, leb-true}
 use Rattle.packet_spec.specs.Limits.{level}
 use Rattle.sender_spec.specs.Limits.{roomSize}
-use Rattle.carrying.specs.internal.Young.{youngRun, textTotal, marked}
+use Rattle.carrying.specs.internal.Young.{youngRun, textTotal, tagged}
 use Rattle.carrying.proofs.YoungRun.{run-more, run-stop, run-end}
 use Rattle.delivery.specs.Run.{oldestAge}
-use Rattle.carrying.proofs.Marks.{marked-more}
+use Rattle.carrying.proofs.Tags.{tagged-more}
 use Rattle.carrying.proofs.TextTotal.{total-more}
 use Rattle.carrying.proofs.run.Statement.{statement}
 use Rattle.carrying.proofs.run.Tie as tie
 
 abbrev Inv-loop : tie.InvT-loop
-Inv-loop most clock lens ats count₀ text₀ marks₀ count text marks =
+Inv-loop most clock lens ats count₀ text₀ tags₀ count text tags =
     (count ≤ level) × (count ≤ most) × (youngRun clock (take most ats) ≡ count + youngRun clock (drop count (take most ats)))
-    × (text ≡ textTotal (take count lens)) × (text ≤ roomSize * count) × (marks ≡ marked clock lens ats count)
+    × (text ≡ textTotal (take count lens)) × (text ≤ roomSize * count) × (tags ≡ tagged clock lens ats count)
 
 abbrev μ-loop : tie.MeasureT-loop
-μ-loop most clock lens ats count₀ text₀ marks₀ count text marks = level - count
+μ-loop most clock lens ats count₀ text₀ tags₀ count text tags = level - count
 
 long : (c : tie.Start Inv-loop μ-loop) → (length (c .args .t1) ≡ level) × (length (c .args .t2) ≡ level)
 unfolding level
@@ -80,19 +80,19 @@ age-few c =
 passed-requires : tie.Need-passed-requires Inv-loop μ-loop
 passed-requires c κs = search needs
 
-mul-marks : tie.Need-mul-marks Inv-loop μ-loop
-mul-marks c = omega (arith, age-few c)
+mul-tags : tie.Need-mul-tags Inv-loop μ-loop
+mul-tags c = omega (arith, age-few c)
 
-add-marks : tie.Need-add-marks Inv-loop μ-loop
-add-marks c = omega (arith, age-few c, c .before .least .ensures)
+add-tags : tie.Need-add-tags Inv-loop μ-loop
+add-tags c = omega (arith, age-few c, c .before .least .ensures)
 
-mul-marks-2 : tie.Need-mul-marks-2 Inv-loop μ-loop
+mul-tags-2 : tie.Need-mul-tags-2 Inv-loop μ-loop
 unfolding level
-mul-marks-2 c = search needs
+mul-tags-2 c = search needs
 
-array-write-marks : tie.Need-array-write-marks Inv-loop μ-loop
+array-write-tags : tie.Need-array-write-tags Inv-loop μ-loop
 unfolding level
-array-write-marks c = search needs
+array-write-tags c = search needs
 
 add-text : tie.Need-add-text Inv-loop μ-loop
 add-text c = omega (arith, c .before .least .ensures)
@@ -119,7 +119,7 @@ loop-again c =
       rw add-one (omega (arith, l .inv .3, n .ensures, total-more (a .t1) (l .count) (omega (arith, long st)))),
       omega (arith, n .ensures),
       rw add-one (ap (λ (x : List ℕ). set x (l .count) (c .passed .result * 256 + n .result)) (l .inv .5)
-          ∙ marked-more (a .clock) (a .t1) (a .t2) (long st .0) (long st .1) (l .count) (omega arith) (c .passed .result * 256 + n .result) (λ i. c .passed .ensures i * 256 + n .ensures i)),
+          ∙ tagged-more (a .clock) (a .t1) (a .t2) (long st .0) (long st .1) (l .count) (omega arith) (c .passed .result * 256 + n .result) (λ i. c .passed .ensures i * 256 + n .ensures i)),
     )
 
 returns-3 : tie.Need-returns-3 Inv-loop μ-loop
@@ -145,10 +145,10 @@ run-spec =
     array-read-len
     least-requires
     passed-requires
-    mul-marks
-    add-marks
-    mul-marks-2
-    array-write-marks
+    mul-tags
+    add-tags
+    mul-tags-2
+    array-write-tags
     add-text
     add-count
     loop-less

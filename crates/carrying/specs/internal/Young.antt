@@ -23,14 +23,14 @@ textTotal [] = 0
 textTotal (n ∷ lens) = min n roomSize + textTotal lens
 
 -- the age of a block and the bytes of its text, in one number
-abbrev pub markOf : ℕ → ℕ → ℕ → ℕ
-markOf t n at = (t - at) * 256 + min n roomSize
+abbrev pub tagOf : ℕ → ℕ → ℕ → ℕ
+tagOf t n at = (t - at) * 256 + min n roomSize
 
-abbrev pub marksOf : ℕ → List ℕ → List ℕ → List ℕ
-marksOf t [] ats = []
-marksOf t (n ∷ lens) [] = []
-marksOf t (n ∷ lens) (at ∷ ats) = markOf t n at ∷ marksOf t lens ats
+abbrev pub tagsOf : ℕ → List ℕ → List ℕ → List ℕ
+tagsOf t [] ats = []
+tagsOf t (n ∷ lens) [] = []
+tagsOf t (n ∷ lens) (at ∷ ats) = tagOf t n at ∷ tagsOf t lens ats
 
 -- those of the first n blocks, and zeros
-abbrev pub marked : ℕ → List ℕ → List ℕ → ℕ → List ℕ
-marked t lens ats n = take n (marksOf t lens ats) ++ drop n (replicate level 0)
+abbrev pub tagged : ℕ → List ℕ → List ℕ → ℕ → List ℕ
+tagged t lens ats n = take n (tagsOf t lens ats) ++ drop n (replicate level 0)

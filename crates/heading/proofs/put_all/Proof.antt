@@ -30,7 +30,7 @@ abbrev heads : tie.Else1 → List ℕ
 heads c =
     let a = c .before .before .before .before .before .before .before .before .args in
     let d = a .front in
-    headersFor (d .t140 % 128) (d .marks) (a .count)
+    headersFor (d .t140 % 128) (d .tags) (a .count)
 
 redundant : (c : tie.Else1) → let a = c .before .before .before .before .before .before .before .before .args in headsWith (a .front) (a .count) ≡ heads c
 redundant c = let a = c .before .before .before .before .before .before .before .before .args in heads-redundant (a .front) (a .count) (c .if1 .left)

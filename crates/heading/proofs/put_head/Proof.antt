@@ -43,7 +43,7 @@ same-length c = simp length-set
 returns : tie.Need-returns
 returns c =
     let a = c .args in
-    sets-over (headOf (a .t140) (a .mark)) (now (a .to)) (c .pre .1)
+    sets-over (headOf (a .t140) (a .tag)) (now (a .to)) (c .pre .1)
 
 pub put-head-spec : {M : Type 1} → statement M
 put-head-spec =

@@ -16,10 +16,10 @@ use Rattle.heading.proofs.put_heads.Statement.{statement}
 use Rattle.heading.proofs.put_heads.Tie as tie
 
 abbrev Inv-loop : tie.InvT-loop
-Inv-loop to₀ t140 count marks i₀ at₀ to i at = (i ≤ level) × Turn (headAt t140 marks) (t140 ∷ []) count to₀ to i at
+Inv-loop to₀ t140 count tags i₀ at₀ to i at = (i ≤ level) × Turn (headAt t140 tags) (t140 ∷ []) count to₀ to i at
 
 abbrev μ-loop : tie.MeasureT-loop
-μ-loop to₀ t140 count marks i₀ at₀ to i at = i
+μ-loop to₀ t140 count tags i₀ at₀ to i at = i
 
 -- the space is as long as it was
 room : (c : tie.At-loop Inv-loop μ-loop) → length (c .loop .to) ≡ length (now (c .before .before .args .to))
@@ -65,13 +65,13 @@ loop-holds c =
 sub-i : tie.Need-sub-i Inv-loop μ-loop
 sub-i c = c .loop-test .taken
 
-mul-mark : tie.Need-mul-mark Inv-loop μ-loop
+mul-tag : tie.Need-mul-tag Inv-loop μ-loop
 unfolding level
-mul-mark c = search needs
+mul-tag c = search needs
 
-array-read-mark : tie.Need-array-read-mark Inv-loop μ-loop
+array-read-tag : tie.Need-array-read-tag Inv-loop μ-loop
 unfolding level
-array-read-mark c = search needs
+array-read-tag c = search needs
 
 sub-put-head : tie.Need-sub-put-head Inv-loop μ-loop
 sub-put-head c = omega (arith, room (c .before .before), fits c)
@@ -131,8 +131,8 @@ put-heads-spec =
     μ-loop
     loop-holds
     sub-i
-    mul-mark
-    array-read-mark
+    mul-tag
+    array-read-tag
     sub-put-head
     part-put-head-start
     part-put-head-end

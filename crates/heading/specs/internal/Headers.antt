@@ -15,11 +15,11 @@ abbrev pub headOf : ℕ → ℕ → List ℕ
 headOf t140 m = blockHeader t140 (m / 256 % 16384) (m % 256)
 
 abbrev pub headAt : ℕ → List ℕ → ℕ → List ℕ
-headAt t140 marks i = headOf t140 (getD marks i 0)
+headAt t140 tags i = headOf t140 (getD tags i 0)
 
 -- the headers of the first n blocks, oldest first, and the primary's
 abbrev pub headersFor : ℕ → List ℕ → ℕ → List ℕ
-headersFor t140 marks n = lastFirst (headAt t140 marks) (t140 ∷ []) n
+headersFor t140 tags n = lastFirst (headAt t140 tags) (t140 ∷ []) n
 
 -- M and the payload type
 abbrev pub secondOf : Front → ℕ
@@ -27,7 +27,7 @@ secondOf f = markerBit (f .marker) + cond (eqb (f .level) 0) (f .t140 % 128) (f 
 
 -- the block headers of a packet that repeats n blocks: none at level 0
 unfoldable pub headsWith : Front → ℕ → List ℕ
-headsWith f n = cond (eqb (f .level) 0) [] (headersFor (f .t140 % 128) (f .marks) n)
+headsWith f n = cond (eqb (f .level) 0) [] (headersFor (f .t140 % 128) (f .tags) n)
 
 -- all its headers
 abbrev pub frontWith : Front → ℕ → List ℕ

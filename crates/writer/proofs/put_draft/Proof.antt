@@ -12,7 +12,7 @@ use Rattle.packet_spec.specs.Limits.{level}
 use Rattle.sender_spec.specs.Limits.{roomSize}
 use Rattle.sender_spec.specs.Answers.{sent}
 use Rattle.carrying.specs.internal.Young.{youngRun, textTotal}
-use Rattle.carrying.proofs.Marks.{AreMarks, marked-are}
+use Rattle.carrying.proofs.Tags.{AreTags, tagged-are}
 use Rattle.heading.specs.internal.Headers.{frontWith}
 use Rattle.heading.proofs.Headers.{front-over}
 use Rattle.writer.specs.declared.Draft.{Draft}
@@ -42,11 +42,11 @@ ats-long c = search needs
 run-is : (c : tie.After-run) → let d = made c in c .run .result .count ≡ youngRun (d .clock) (take (min (d .level) (d .count)) (d .ats))
 run-is c = let d = made c in c .run .ensures .0 ∙ ap (λ (m : ℕ). youngRun (d .clock) (take m (d .ats))) (c .before .least .ensures)
 
--- the marks are those of the blocks
-are : (c : tie.After-run) → let d = made c in AreMarks (d .clock) (d .lens) (d .ats) (c .run .result .count) (c .run .result .marks)
+-- the tags are those of the blocks
+are : (c : tie.After-run) → let d = made c in AreTags (d .clock) (d .lens) (d .ats) (c .run .result .count) (c .run .result .tags)
 are c i h =
     let d = made c in
-    ap (λ (l : List ℕ). getD l i 0) (c .run .ensures .4) ∙ marked-are (d .clock) (d .lens) (d .ats) (lens-long c) (ats-long c) (c .run .result .count) (c .run .ensures .2) i h
+    ap (λ (l : List ℕ). getD l i 0) (c .run .ensures .4) ∙ tagged-are (d .clock) (d .lens) (d .ats) (lens-long c) (ats-long c) (c .run .result .count) (c .run .ensures .2) i h
 
 -- and so is the length
 size-of : (c : tie.After-size) → let r = c .before .before .before in let d = made r in
@@ -73,7 +73,7 @@ returns c =
     let r = c .before .before in
     let st = start r in
     let a = st .args in
-    put-quiet (made r) (now (a .texts)) (r .run .result .count) (lens-long r) (ats-long r) (st .pre) (run-is r) (r .run .result .marks) (are r) (now (a .packet))
+    put-quiet (made r) (now (a .texts)) (r .run .result .count) (lens-long r) (ats-long r) (st .pre) (run-is r) (r .run .result .tags) (are r) (now (a .packet))
     (omega (arith, c .if1 .taken, r .run .ensures .1, c .before .least2 .ensures))
 
 size-requires : tie.Need-size-requires
@@ -90,19 +90,19 @@ returns-2 c =
       answer = clockAnswer (by-short (a .draft .level) n (textTotal (take n (made r .lens))) (min (a .draft .len) roomSize) (s .size .result) (length (now (a .packet))) (size-of s) (c .if2 .taken) i);
       lent = now (a .packet);
     })
-    ∙ put-short (made r) (now (a .texts)) (r .run .result .count) (lens-long r) (ats-long r) (st .pre) (run-is r) (r .run .result .marks) (are r) (now (a .packet))
+    ∙ put-short (made r) (now (a .texts)) (r .run .result .count) (lens-long r) (ats-long r) (st .pre) (run-is r) (r .run .result .tags) (are r) (now (a .packet))
     (omega (arith, s .before .if1 .left, r .run .ensures .1, s .before .before .least2 .ensures)) (omega (arith, c .if2 .taken, size-of s))
 
 abbrev front : tie.Else2 → List ℕ
 front c =
     let r = c .before .before .before .before in
-    frontWith (frontIn (made r) (r .run .result .marks)) (r .run .result .count)
+    frontWith (frontIn (made r) (r .run .result .tags)) (r .run .result .count)
 
 abbrev body : tie.Else2 → List ℕ
 body c =
     let r = c .before .before .before .before in
     let a = start r .args in
-    textsOf (now (a .texts)) (a .draft .room) (r .run .result .marks) (a .draft .len) (r .run .result .count)
+    textsOf (now (a .texts)) (a .draft .room) (r .run .result .tags) (a .draft .len) (r .run .result .count)
 
 -- the headers, and the texts behind them, fit
 room : (c : tie.Else2) → length (front c) + length (body c) ≤ length (now (start (c .before .before .before .before) .args .packet))
@@ -117,8 +117,8 @@ room c =
       arith,
       c .if2 .left,
       size-of s,
-      front-size d x n (lens-long r) (ats-long r) (st .pre) (run-is r) (r .run .result .marks) (are r),
-      size-is d x n (lens-long r) (ats-long r) (st .pre) (run-is r) (r .run .result .marks) (are r),
+      front-size d x n (lens-long r) (ats-long r) (st .pre) (run-is r) (r .run .result .tags) (are r),
+      size-is d x n (lens-long r) (ats-long r) (st .pre) (run-is r) (r .run .result .tags) (are r),
     )
 
 -- the headers are written
@@ -130,8 +130,8 @@ fronted c =
     let st = start r in
     let d = made r in
     let n = r .run .result .count in
-    front-over (frontIn d (r .run .result .marks)) n (c .put-front .result) (now (st .args .packet)) (c .put-front .last .0)
-    (few d (now (st .args .texts)) n (lens-long r) (ats-long r) (st .pre) (run-is r) (r .run .result .marks) (are r)) (omega (arith, room e)) (c .put-front .ensures)
+    front-over (frontIn d (r .run .result .tags)) n (c .put-front .result) (now (st .args .packet)) (c .put-front .last .0)
+    (few d (now (st .args .texts)) n (lens-long r) (ats-long r) (st .pre) (run-is r) (r .run .result .tags) (are r)) (omega (arith, room e)) (c .put-front .ensures)
 
 -- with room for the texts
 space : (c : tie.After-put-front) → c .put-front .result + length (body (c .before .before .before)) ≤ length (c .put-front .last .0)
@@ -162,13 +162,13 @@ put-texts-requires c κs =
     let n = r .run .result .count in
     let x = now (st .args .texts) in (
       st .pre,
-      few d x n (lens-long r) (ats-long r) (st .pre) (run-is r) (r .run .result .marks) (are r),
+      few d x n (lens-long r) (ats-long r) (st .pre) (run-is r) (r .run .result .tags) (are r),
       lent-fits (f .put-front .result) (length (body e)) (f .put-front .last .0) (space f),
     )
 
 whole : (c : tie.After-put-texts) → let f = c .before .before .before .before in let e = f .before .before .before in let r = e .before .before .before .before in let a = start r .args in
     putMid (f .put-front .result) (length (f .put-front .last .0) - f .put-front .result) (f .put-front .last .0) (c .put-texts .last .0)
-    ≡ over (packetWith (made r) (r .run .result .marks) (now (a .texts)) (r .run .result .count)) (now (a .packet))
+    ≡ over (packetWith (made r) (r .run .result .tags) (now (a .texts)) (r .run .result .count)) (now (a .packet))
 whole c =
     let f = c .before .before .before .before in
     let p = f .put-front in
@@ -194,8 +194,8 @@ returns-3 c =
       answer = clockAnswer (by-sent (a .draft .level) n (textTotal (take n (made r .lens))) (min (a .draft .len) roomSize) (s .size .result) (length (now (a .packet))) (size-of s) (e .if2 .left) i);
       lent = whole (c .before .before) i;
     })
-    ∙ (λ i. record { answer = sent (size-of s i); lent = over (packetWith (made r) (r .run .result .marks) (now (a .texts)) n) (now (a .packet)) })
-    ∙ put-sent (made r) (now (a .texts)) (r .run .result .count) (lens-long r) (ats-long r) (st .pre) (run-is r) (r .run .result .marks) (are r) (now (a .packet))
+    ∙ (λ i. record { answer = sent (size-of s i); lent = over (packetWith (made r) (r .run .result .tags) (now (a .texts)) n) (now (a .packet)) })
+    ∙ put-sent (made r) (now (a .texts)) (r .run .result .count) (lens-long r) (ats-long r) (st .pre) (run-is r) (r .run .result .tags) (are r) (now (a .packet))
     (omega (arith, s .before .if1 .left, r .run .ensures .1, s .before .before .least2 .ensures)) (omega (arith, e .if2 .left, size-of s))
 
 pub put-draft-spec : {M : Type 1} → statement M

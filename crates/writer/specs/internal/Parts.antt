@@ -11,7 +11,7 @@ use Rattle.heading.specs.internal.Headers.{frontWith}
 use Rattle.slots.specs.Slots.{slotOf, slotText}
 
 abbrev pub textAt : List ℕ → ℕ → List ℕ → ℕ → List ℕ
-textAt texts room marks i = slotText texts (slotOf room (suc i)) (getD marks i 0 % 256)
+textAt texts room tags i = slotText texts (slotOf room (suc i)) (getD tags i 0 % 256)
 
 -- what waits, no packet back
 abbrev pub waitingAt : List ℕ → ℕ → ℕ → List ℕ
@@ -19,11 +19,11 @@ waitingAt texts room len = slotText texts (slotOf room 0) len
 
 -- the texts of the first n blocks, oldest first, and what waits
 abbrev pub textsOf : List ℕ → ℕ → List ℕ → ℕ → ℕ → List ℕ
-textsOf texts room marks len n = lastFirst (textAt texts room marks) (waitingAt texts room len) n
+textsOf texts room tags len n = lastFirst (textAt texts room tags) (waitingAt texts room len) n
 
 -- what the headers are written from
 abbrev pub frontIn : Draft → List ℕ → Front
-frontIn d marks = record {
+frontIn d tags = record {
   level = d .level;
   t140 = d .t140;
   red = d .red;
@@ -31,12 +31,12 @@ frontIn d marks = record {
   sequence = d .sequence;
   timestamp = d .timestamp;
   source = d .source;
-  marks = marks;
+  tags = tags;
 }
 
 -- a packet that repeats n blocks
 abbrev pub packetWith : Draft → List ℕ → List ℕ → ℕ → List ℕ
-packetWith d marks texts n = frontWith (frontIn d marks) n ++ textsOf texts (d .room) marks (d .len) n
+packetWith d tags texts n = frontWith (frontIn d tags) n ++ textsOf texts (d .room) tags (d .len) n
 
 -- its length, by the bytes of its older texts and of its primary
 abbrev pub packetSize : ℕ → ℕ → ℕ → ℕ → ℕ

@@ -17,10 +17,10 @@ use Rattle.writer.proofs.writing.put_texts.Statement.{statement}
 use Rattle.writer.proofs.writing.put_texts.Tie as tie
 
 abbrev Inv-loop : tie.InvT-loop
-Inv-loop to₀ texts room len count marks i₀ at₀ to i at = (i ≤ level) × Turn (textAt texts room marks) (waitingAt texts room len) count to₀ to i at
+Inv-loop to₀ texts room len count tags i₀ at₀ to i at = (i ≤ level) × Turn (textAt texts room tags) (waitingAt texts room len) count to₀ to i at
 
 abbrev μ-loop : tie.MeasureT-loop
-μ-loop to₀ texts room len count marks i₀ at₀ to i at = i
+μ-loop to₀ texts room len count tags i₀ at₀ to i at = i
 
 -- the space is as long as it was
 room : (c : tie.At-loop Inv-loop μ-loop) → length (c .loop .to) ≡ length (now (c .before .before .before .args .to))
@@ -81,12 +81,12 @@ loop-holds c =
 sub-i : tie.Need-sub-i Inv-loop μ-loop
 sub-i c = c .loop-test .taken
 
-mul-mark : tie.Need-mul-mark Inv-loop μ-loop
-mul-mark c = search needs
+mul-tag : tie.Need-mul-tag Inv-loop μ-loop
+mul-tag c = search needs
 
-array-read-mark : tie.Need-array-read-mark Inv-loop μ-loop
+array-read-tag : tie.Need-array-read-tag Inv-loop μ-loop
 unfolding level
-array-read-mark c = search needs
+array-read-tag c = search needs
 
 sub-put-text : tie.Need-sub-put-text Inv-loop μ-loop
 sub-put-text c = omega (arith, fits c)
@@ -165,8 +165,8 @@ put-texts-spec =
     μ-loop
     loop-holds
     sub-i
-    mul-mark
-    array-read-mark
+    mul-tag
+    array-read-tag
     sub-put-text
     part-put-text-start
     part-put-text-end
