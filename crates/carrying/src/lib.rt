@@ -19,7 +19,7 @@ impl Block {
 }
 
 // How many older blocks a packet carries, the bytes of their texts, and a tag of each: its age and the bytes of its text, in one
-// number.
+// number above 0. Tags behind the last are 0.
 pub struct Carried {
     pub count: usize,
     pub text: usize,
@@ -55,7 +55,7 @@ pub fn run(
         let len = lens[count];
         let size = numbers::least(len, Block::ROOM);
         let age = numbers::passed(clock, sent);
-        tags[count] = age * 256 + size as u64;
+        tags[count] = (16384 + age) * 256 + size as u64;
         text += size;
         count += 1;
     }

@@ -20,9 +20,9 @@ use Rattle.writer.specs.Draft.{blocksFrom}
 use Rattle.carrying.specs.internal.Young.{young, youngRun, textTotal}
 use Rattle.carrying.proofs.YoungRun.{AllYoung}
 use Rattle.carrying.proofs.Tags.{AreTags, tag-age, tag-len}
-use Rattle.heading.specs.internal.LastFirst.{lastFirst}
-use Rattle.heading.specs.internal.Headers.{headAt, headersFor}
-use Rattle.heading.proofs.LastFirst.{last-none, last-more}
+use Rattle.writer.specs.internal.LastFirst.{lastFirst}
+use Rattle.writer.specs.internal.Headers.{headAt, headersFor}
+use Rattle.writer.proofs.LastFirst.{last-none, last-more}
 use Rattle.writer.specs.internal.Parts.{textAt}
 use Rattle.writer.proofs.Slots.{kept-length}
 

@@ -1,3 +1,6 @@
+pub mod LastFirst
+pub mod Turns
+pub mod Headers
 pub mod Slots
 pub mod TextsSize
 pub mod KeptBlocks

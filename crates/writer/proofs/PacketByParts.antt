@@ -19,10 +19,10 @@ use Rattle.writer.specs.Draft.{blocksFrom, carriedBy, draftPrimary, draf
 use Rattle.carrying.specs.internal.Young.{youngRun, textTotal}
 use Rattle.carrying.proofs.Tags.{AreTags}
 use Rattle.carrying.proofs.YoungRun.{AllYoung, run-few, run-young}
-use Rattle.heading.specs.internal.LastFirst.{lastFirst}
-use Rattle.heading.specs.internal.Headers.{headersFor, headsWith, frontWith}
-use Rattle.heading.proofs.LastFirst.{last-none}
-use Rattle.heading.proofs.Headers as Headers
+use Rattle.writer.specs.internal.LastFirst.{lastFirst}
+use Rattle.writer.specs.internal.Headers.{headersFor, headsWith, frontWith}
+use Rattle.writer.proofs.LastFirst.{last-none}
+use Rattle.writer.proofs.Headers as Headers
 use Rattle.slots.specs.Slots.{textsSize}
 use Rattle.writer.specs.internal.Parts.{textAt, waitingAt, textsOf, frontIn, packetWith, packetSize}
 use Rattle.writer.proofs.Slots.{waiting-at, kept-length}

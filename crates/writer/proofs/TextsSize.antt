@@ -8,7 +8,7 @@ use Rattle.sender_spec.specs.Limits.{roomSize}
 use Rattle.carrying.specs.internal.Young.{textTotal}
 use Rattle.carrying.proofs.Tags.{AreTags, tag-len}
 use Rattle.carrying.proofs.TextTotal.{total-more}
-use Rattle.heading.proofs.LastFirst.{last-none, last-more}
+use Rattle.writer.proofs.LastFirst.{last-none, last-more}
 use Rattle.slots.specs.Slots.{textsSize}
 use Rattle.writer.specs.internal.Parts.{textAt, waitingAt, textsOf}
 use Rattle.writer.proofs.Slots.{kept-length}

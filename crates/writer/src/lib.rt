@@ -1,5 +1,6 @@
 // Writes a packet from a draft and the lent texts: each part fills the front of the space that it is lent, and the rest of the
 // space stays.
+mod heading;
 mod writing;
 
 ghost use mathlib.Core.Path.{_≡_};
@@ -10,7 +11,7 @@ ghost use Rattle.sender_spec.specs.Limits.{roomSize};
 ghost use Rattle.writer.specs.Draft.{clockAnswer, answerBy, isQuiet, isSent, putOf};
 ghost use Rattle.slots.specs.Slots.{textsSize};
 ghost use Rattle.writer.specs.internal.Parts.{packetSize};
-use heading::Front;
+use crate::heading::Front;
 use packet::Packet;
 use packet::Refusal;
 use slots::Texts;

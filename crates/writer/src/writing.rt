@@ -5,6 +5,7 @@ ghost use lib.ListN.{length};
 ghost use Rattle.base.specs.Arrays.{over};
 ghost use Rattle.packet_spec.specs.Limits.{level};
 ghost use Rattle.sender_spec.specs.Limits.{roomSize};
+ghost use Rattle.carrying.specs.internal.Young.{TagFirst};
 ghost use Rattle.slots.specs.Slots.{slots, slotOf, slotText, textsSize};
 ghost use Rattle.writer.specs.internal.Parts.{textsOf};
 use packet::Packet;
@@ -66,7 +67,7 @@ pub fn put_texts(
     len: usize,
     count: usize,
 )
-    requires { ⌜ (length (now texts) ≡ textsSize) × (count ≤ level) × (length (textsOf (now texts) room tags len count) ≤ length (now to)) ⌝ }
+    requires { ⌜ (length (now texts) ≡ textsSize) × (count ≤ level) × (length (textsOf (now texts) room tags len count) ≤ length (now to)) × TagFirst tags count ⌝ }
     ensures { λ _. ⌜ now (to .exit) ≡ over (textsOf (now (texts .entry)) room tags len count) (now (to .entry)) ⌝ }
 {
     let mut i = Packet::LEVEL;
@@ -74,8 +75,8 @@ pub fn put_texts(
     while 0 < i {
         let back = i;
         i -= 1;
-        if i < count {
-            let tag = tags[i];
+        let tag = tags[i];
+        if 0 < tag {
             let n = (tag % 256) as usize;
             at += put_text(&mut to[at..], texts, room, back, n);
         }

@@ -80,11 +80,14 @@ age-few c =
 passed-requires : tie.Need-passed-requires Inv-loop μ-loop
 passed-requires c κs = search needs
 
+add-tags : tie.Need-add-tags Inv-loop μ-loop
+add-tags c = omega (arith, age-few c)
+
 mul-tags : tie.Need-mul-tags Inv-loop μ-loop
 mul-tags c = omega (arith, age-few c)
 
-add-tags : tie.Need-add-tags Inv-loop μ-loop
-add-tags c = omega (arith, age-few c, c .before .least .ensures)
+add-tags-2 : tie.Need-add-tags-2 Inv-loop μ-loop
+add-tags-2 c = omega (arith, age-few c, c .before .least .ensures)
 
 mul-tags-2 : tie.Need-mul-tags-2 Inv-loop μ-loop
 unfolding level
@@ -118,8 +121,8 @@ loop-again c =
           (omega (arith, l .inv .2, run-more (a .clock) (a .t2) (a .most) (l .count) (omega arith) (omega (arith, long st)) (sym (q .ensures) ∙ not-false (q .result) (c .before .before .if2 .left)))),
       rw add-one (omega (arith, l .inv .3, n .ensures, total-more (a .t1) (l .count) (omega (arith, long st)))),
       omega (arith, n .ensures),
-      rw add-one (ap (λ (x : List ℕ). set x (l .count) (c .passed .result * 256 + n .result)) (l .inv .5)
-          ∙ tagged-more (a .clock) (a .t1) (a .t2) (long st .0) (long st .1) (l .count) (omega arith) (c .passed .result * 256 + n .result) (λ i. c .passed .ensures i * 256 + n .ensures i)),
+      rw add-one (ap (λ (x : List ℕ). set x (l .count) ((16384 + c .passed .result) * 256 + n .result)) (l .inv .5)
+          ∙ tagged-more (a .clock) (a .t1) (a .t2) (long st .0) (long st .1) (l .count) (omega arith) ((16384 + c .passed .result) * 256 + n .result) (λ i. (16384 + c .passed .ensures i) * 256 + n .ensures i)),
     )
 
 returns-3 : tie.Need-returns-3 Inv-loop μ-loop
@@ -145,8 +148,9 @@ run-spec =
     array-read-len
     least-requires
     passed-requires
-    mul-tags
     add-tags
+    mul-tags
+    add-tags-2
     mul-tags-2
     array-write-tags
     add-text

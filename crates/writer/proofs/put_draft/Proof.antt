@@ -1,5 +1,5 @@
 use Prim.Native.Nat.{ℕ, _+_, _-_, _≤_, min}
-use mathlib.Core.Path.{_≡_, _∙_, ap}
+use mathlib.Core.Path.{_≡_, _∙_, ap, sym, subst}
 use mathlib.Core.List.{List, _++_}
 use native.Mathlib.Omega.{arith}
 use lib.ListN.{length, take, getD, length-append}
@@ -11,10 +11,9 @@ use Rattle.base.proofs.Written.{wrote-both, lent-fits}
 use Rattle.packet_spec.specs.Limits.{level}
 use Rattle.sender_spec.specs.Limits.{roomSize}
 use Rattle.sender_spec.specs.Answers.{sent}
-use Rattle.carrying.specs.internal.Young.{youngRun, textTotal}
-use Rattle.carrying.proofs.Tags.{AreTags, tagged-are}
-use Rattle.heading.specs.internal.Headers.{frontWith}
-use Rattle.heading.proofs.Headers.{front-over}
+use Rattle.carrying.specs.internal.Young.{youngRun, textTotal, TagFirst}
+use Rattle.carrying.proofs.Tags.{AreTags, tagged-are, tags-first}
+use Rattle.writer.specs.internal.Headers.{frontWith}
 use Rattle.writer.specs.declared.Draft.{Draft}
 use Rattle.writer.specs.Draft.{clockAnswer}
 use Rattle.writer.specs.internal.Parts.{textsOf, frontIn, packetWith, packetSize}
@@ -47,6 +46,11 @@ are : (c : tie.After-run) → let d = made c in AreTags (d .clock) (d .lens) (d 
 are c i h =
     let d = made c in
     ap (λ (l : List ℕ). getD l i 0) (c .run .ensures .4) ∙ tagged-are (d .clock) (d .lens) (d .ats) (lens-long c) (ats-long c) (c .run .result .count) (c .run .ensures .2) i h
+
+first : (c : tie.After-run) → TagFirst (c .run .result .tags) (c .run .result .count)
+first c =
+    let d = made c in
+    subst (λ (l : List ℕ). TagFirst l (c .run .result .count)) (sym (c .run .ensures .4)) (tags-first (d .clock) (d .lens) (d .ats) (lens-long c) (ats-long c) (c .run .result .count) (c .run .ensures .2))
 
 -- and so is the length
 size-of : (c : tie.After-size) → let r = c .before .before .before in let d = made r in
@@ -124,14 +128,7 @@ room c =
 -- the headers are written
 fronted : (c : tie.After-put-front) → let e = c .before .before .before in let a = start (e .before .before .before .before) .args in
     (c .put-front .result ≡ length (front e)) × (c .put-front .last .0 ≡ over (front e) (now (a .packet)))
-fronted c =
-    let e = c .before .before .before in
-    let r = e .before .before .before .before in
-    let st = start r in
-    let d = made r in
-    let n = r .run .result .count in
-    front-over (frontIn d (r .run .result .tags)) n (c .put-front .result) (now (st .args .packet)) (c .put-front .last .0)
-    (few d (now (st .args .texts)) n (lens-long r) (ats-long r) (st .pre) (run-is r) (r .run .result .tags) (are r)) (omega (arith, room e)) (c .put-front .ensures)
+fronted c = c .put-front .ensures
 
 -- with room for the texts
 space : (c : tie.After-put-front) → c .put-front .result + length (body (c .before .before .before)) ≤ length (c .put-front .last .0)
@@ -141,7 +138,11 @@ space c =
     omega (arith, room e, fronted c .0, ap length (fronted c .1), length-over (front e) p (omega (arith, room e)))
 
 put-front-requires : tie.Need-put-front-requires
-put-front-requires c κs = search needs
+put-front-requires c κs =
+    let e = c .before .before in
+    let r = e .before .before .before .before in
+    let st = start r in
+    (few (made r) (now (st .args .texts)) (r .run .result .count) (lens-long r) (ats-long r) (st .pre) (run-is r) (r .run .result .tags) (are r), omega (arith, room e), first r)
 
 sub-put-texts : tie.Need-sub-put-texts
 sub-put-texts c = omega (arith, space (c .before .before))
@@ -164,6 +165,7 @@ put-texts-requires c κs =
       st .pre,
       few d x n (lens-long r) (ats-long r) (st .pre) (run-is r) (r .run .result .tags) (are r),
       lent-fits (f .put-front .result) (length (body e)) (f .put-front .last .0) (space f),
+      first r,
     )
 
 whole : (c : tie.After-put-texts) → let f = c .before .before .before .before in let e = f .before .before .before in let r = e .before .before .before .before in let a = start r .args in

@@ -5,9 +5,9 @@ use mathlib.Core.Bool.{cond}
 use lib.Dec.{eqb}
 use lib.ListN.{getD}
 use Rattle.writer.specs.declared.Draft.{Draft}
-use Rattle.heading.specs.declared.Front.{Front}
-use Rattle.heading.specs.internal.LastFirst.{lastFirst}
-use Rattle.heading.specs.internal.Headers.{frontWith}
+use Rattle.writer.specs.declared.heading.Front.{Front}
+use Rattle.writer.specs.internal.LastFirst.{lastFirst}
+use Rattle.writer.specs.internal.Headers.{frontWith}
 use Rattle.slots.specs.Slots.{slotOf, slotText}
 
 abbrev pub textAt : List ℕ → ℕ → List ℕ → ℕ → List ℕ

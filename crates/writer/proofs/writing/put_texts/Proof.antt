@@ -3,7 +3,7 @@ use Rattle.base.specs.Arrays.{over}
 use Rattle.base.proofs.Lent.{length-over}
 use Rattle.base.proofs.Written.{Begun, begun-end, begun-last, lent-fits}
 use Rattle.slots.specs.Slots.{slotOf, slotText}
-use Prim.Native.Nat.{ℕ, suc, _+_, _-_, _%_, _≤_}
+use Prim.Native.Nat.{ℕ, suc, _+_, _-_, _%_, _≤_, _<_}
 use mathlib.Core.Path.{_≡_, _∙_, ap}
 use mathlib.Core.List.{List}
 use native.Mathlib.Omega.{arith}
@@ -11,8 +11,9 @@ use lib.ListN.{length, getD}
 use borrow.Author.Needs.{needs}
 use denote.Ref.{now}
 use Rattle.packet_spec.specs.Limits.{level}
+use Rattle.carrying.proofs.Tags.{tag-below, tag-past}
 use Rattle.writer.specs.internal.Parts.{textAt, waitingAt, textsOf}
-use Rattle.heading.proofs.Turns.{Turn, turn-none, turn-past, turn-end, turn-room, turn-fits, turn-next}
+use Rattle.writer.proofs.Turns.{Turn, turn-none, turn-past, turn-end, turn-room, turn-fits, turn-next}
 use Rattle.writer.proofs.writing.put_texts.Statement.{statement}
 use Rattle.writer.proofs.writing.put_texts.Tie as tie
 
@@ -40,13 +41,20 @@ text c =
     let e : i ≡ suc (i - 1) = omega (arith, c .before .loop-test .taken) in
     ap (λ (back : ℕ). slotText (now (a .texts)) (slotOf (a .room) back) (getD (a .t4) (i - 1) 0 % 256)) e
 
+-- a block with a tag is repeated
+below : (c : tie.Then1 Inv-loop μ-loop) → c .before .before .loop .i - 1 < c .before .before .before .before .before .args .count
+below c =
+    let st = c .before .before .before .before .before in
+    let l = c .before .before .loop in
+    tag-below (st .args .t4) (st .args .count) (st .pre .3) (l .i - 1) (omega (arith, l .inv .0, c .before .loop-test .taken)) (c .if1 .taken)
+
 -- the next text fits
 fits : (c : tie.Then1 Inv-loop μ-loop) → let l = c .before .before .loop in l .at + length (block c) ≤ length (l .to)
 fits c =
     let st = c .before .before .before .before .before in
     let a = st .args in
     let l = c .before .before .loop in
-    omega (arith, room (c .before .before), turn-fits (textAt (now (a .texts)) (a .room) (a .t4)) (waitingAt (now (a .texts)) (a .room) (a .len)) (a .count) (now (a .to)) (l .to) (l .i) (l .at) (l .inv .1) (st .pre .2) (c .before .loop-test .taken) (c .if1 .taken))
+    omega (arith, room (c .before .before), turn-fits (textAt (now (a .texts)) (a .room) (a .t4)) (waitingAt (now (a .texts)) (a .room) (a .len)) (a .count) (now (a .to)) (l .to) (l .i) (l .at) (l .inv .1) (st .pre .2) (c .before .loop-test .taken) (below c))
 
 -- none is left but what waits
 left : (c : tie.After-loop Inv-loop μ-loop) → let a = c .before .before .before .before .args in
@@ -119,16 +127,18 @@ loop-again c =
     let l = t .before .before .loop in
     let e : q .result ≡ length (block t) = q .ensures .0 ∙ ap length (text t) in
     let w = q .ensures .1 ∙ ap (λ (x : List ℕ). over x (midOf (l .at) (length (l .to) - l .at) (l .to))) (text t) in
-    (omega arith, rw e (turn-next (textAt (now (a .texts)) (a .room) (a .t4)) (waitingAt (now (a .texts)) (a .room) (a .len)) (a .count) (now (a .to)) (l .to) (l .i) (l .at) (l .inv .1) (t .before .before .before .before .before .pre .2) (t .before .loop-test .taken) (t .if1 .taken) (q .last .0) w))
+    (omega arith, rw e (turn-next (textAt (now (a .texts)) (a .room) (a .t4)) (waitingAt (now (a .texts)) (a .room) (a .len)) (a .count) (now (a .to)) (l .to) (l .i) (l .at) (l .inv .1) (t .before .before .before .before .before .pre .2) (t .before .loop-test .taken) (below t) (q .last .0) w))
 
 loop-less-2 : tie.Need-loop-less-2 Inv-loop μ-loop
 loop-less-2 c = omega arith
 
 loop-again-2 : tie.Need-loop-again-2 Inv-loop μ-loop
 loop-again-2 c =
-    let a = c .before .before .before .before .before .args in
+    let st = c .before .before .before .before .before in
+    let a = st .args in
     let l = c .before .before .loop in
-    (omega arith, turn-past (textAt (now (a .texts)) (a .room) (a .t4)) (waitingAt (now (a .texts)) (a .room) (a .len)) (a .count) (now (a .to)) (l .to) (l .i) (l .at) (l .inv .1) (c .if1 .left))
+    let past = tag-past (a .t4) (a .count) (st .pre .3) (l .i - 1) (omega (arith, l .inv .0, c .before .loop-test .taken)) (c .if1 .left) in
+    (omega arith, turn-past (textAt (now (a .texts)) (a .room) (a .t4)) (waitingAt (now (a .texts)) (a .room) (a .len)) (a .count) (now (a .to)) (l .to) (l .i) (l .at) (l .inv .1) past)
 
 sub-put-text-2 : tie.Need-sub-put-text-2 Inv-loop μ-loop
 sub-put-text-2 c = omega (arith, ends c)

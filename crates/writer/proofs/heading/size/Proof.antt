@@ -1,8 +1,8 @@
 use borrow.Author.Needs.{needs}
 use Rattle.packet_spec.specs.Limits.{level}
 use Rattle.base.proofs.Cases.{cases}
-use Rattle.heading.proofs.size.Statement.{statement}
-use Rattle.heading.proofs.size.Tie as tie
+use Rattle.writer.proofs.heading.size.Statement.{statement}
+use Rattle.writer.proofs.heading.size.Tie as tie
 
 returns : tie.Need-returns
 returns c = search cases

@@ -9,11 +9,11 @@ use Rattle.base.specs.Arrays.{over}
 use Rattle.base.proofs.Lent.{length-over}
 use Rattle.base.proofs.Written.{wrote-both, lent-fits}
 use Rattle.packet_spec.specs.Encoding.{markerBit, fixedHeader}
-use Rattle.heading.specs.internal.Headers.{headersFor, secondOf, headsWith, frontWith}
-use Rattle.heading.proofs.Headers.{heads-plain, heads-redundant}
+use Rattle.writer.specs.internal.Headers.{headersFor, secondOf, headsWith, frontWith}
+use Rattle.writer.proofs.Headers.{heads-plain, heads-redundant}
 use borrow.Author.Needs.{needs}
-use Rattle.heading.proofs.put_all.Statement.{statement}
-use Rattle.heading.proofs.put_all.Tie as tie
+use Rattle.writer.proofs.heading.put_all.Statement.{statement}
+use Rattle.writer.proofs.heading.put_all.Tie as tie
 
 -- M and the payload type
 second-is : (c : tie.After-second) → c .second .result ≡ secondOf (c .before .before .before .args .front)
@@ -78,7 +78,7 @@ put-heads-requires c κs =
     let e = c .before .before .before in
     let h = e .before .before .before in
     let st = e .before .before .before .before .before .before .before .before in
-    (omega arith, st .pre .0, lent-fits 12 (length (heads e)) (h .put-header .last .0) (omega (arith, headed h, room e)))
+    (omega arith, st .pre .0, lent-fits 12 (length (heads e)) (h .put-header .last .0) (omega (arith, headed h, room e)), st .pre .2)
 
 whole : (c : tie.After-put-heads) → let e = c .before .before .before .before in let h = e .before .before .before in let a = e .before .before .before .before .before .before .before .before .args in
     putMid 12 (length (h .put-header .last .0) - 12) (h .put-header .last .0) (c .put-heads .last .0) ≡ over (frontWith (a .front) (a .count)) (now (a .to))

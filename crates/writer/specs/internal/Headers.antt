@@ -1,14 +1,12 @@
 -- The headers of a packet, by the ages and lengths of the blocks kept, newest first.
-use Prim.Native.Nat.{ℕ, _+_, _*_, _/_, _%_, min}
+use Prim.Native.Nat.{ℕ, _+_, _*_, _/_, _%_}
 use mathlib.Core.List.{List, [], _∷_, _++_}
 use mathlib.Core.Bool.{cond}
-use lib.Dec.{ltb, eqb}
-use lib.ListN.{length, getD}
-use Rattle.heading.specs.declared.Front.{Front}
-use Rattle.base.specs.Arrays.{over}
-use Rattle.packet_spec.specs.Limits.{level}
+use lib.Dec.{eqb}
+use lib.ListN.{getD}
+use Rattle.writer.specs.declared.heading.Front.{Front}
 use Rattle.packet_spec.specs.Encoding.{markerBit, fixedHeader, blockHeader}
-use Rattle.heading.specs.internal.LastFirst.{lastFirst}
+use Rattle.writer.specs.internal.LastFirst.{lastFirst}
 
 -- the header of a block, by its age and the bytes of its text, in one number: 14 bits and 8
 abbrev pub headOf : ℕ → ℕ → List ℕ
@@ -36,11 +34,3 @@ frontWith f n = fixedHeader (secondOf f) (f .sequence) (f .timestamp) (f .source
 -- their length at level R
 abbrev pub frontSize : ℕ → ℕ → ℕ
 frontSize R n = cond (eqb R 0) 12 (12 + (4 * n + 1))
-
--- no more blocks are repeated than there are
-abbrev pub frontOf : Front → ℕ → List ℕ
-frontOf f count = frontWith f (min count level)
-
--- x over the front of the space, where it fits
-abbrev pub headersPlaced : List ℕ → List ℕ → List ℕ
-headersPlaced x p = cond (ltb (length p) (length x)) p (over x p)

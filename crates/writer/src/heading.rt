@@ -7,7 +7,8 @@ ghost use lib.ListN.{length};
 ghost use Rattle.base.specs.Arrays.{over};
 ghost use Rattle.packet_spec.specs.Limits.{level};
 ghost use Rattle.packet_spec.specs.Encoding.{markerBit, fixedHeader};
-ghost use Rattle.heading.specs.internal.Headers.{headOf, headersFor, frontWith, frontSize, frontOf, headersPlaced};
+ghost use Rattle.writer.specs.internal.Headers.{headOf, headersFor, frontWith, frontSize};
+ghost use Rattle.carrying.specs.internal.Young.{TagFirst};
 use packet::Packet;
 
 // What the headers are written from: the header's values, and the tags of the blocks, newest first: age and bytes of text, in one
@@ -23,15 +24,12 @@ pub struct Front {
     pub tags: [u64; Packet::LEVEL],
 }
 
-// The headers of a packet that repeats the first `count` blocks, where the space holds them; their length.
+// The headers of a packet that repeats the first `count` blocks; their length.
 pub fn put_front(to: &mut [u8], front: Front, count: usize) -> usize
-    ensures { λ r. ⌜ (r ≡ length (frontOf front count)) × (now (to .exit) ≡ headersPlaced (frontOf front count) (now (to .entry))) ⌝ }
+    requires { ⌜ (count ≤ level) × (length (frontWith front count) ≤ length (now to)) × TagFirst (front .tags) count ⌝ }
+    ensures { λ r. ⌜ (r ≡ length (frontWith front count)) × (now (to .exit) ≡ over (frontWith front count) (now (to .entry))) ⌝ }
 {
-    let count = numbers::least(count, Packet::LEVEL);
     let size = size(front.level, count);
-    if to.len() < size {
-        return size;
-    }
     put_all(to, front, count);
     size
 }
@@ -47,7 +45,7 @@ fn size(repeats: usize, count: usize) -> usize
 }
 
 fn put_all(to: &mut [u8], front: Front, count: usize)
-    requires { ⌜ (count ≤ level) × (length (frontWith front count) ≤ length (now to)) ⌝ }
+    requires { ⌜ (count ≤ level) × (length (frontWith front count) ≤ length (now to)) × TagFirst (front .tags) count ⌝ }
     ensures { λ _. ⌜ now (to .exit) ≡ over (frontWith front count) (now (to .entry)) ⌝ }
 {
     let kind = kind(front.level, front.t140, front.red);
@@ -101,18 +99,18 @@ fn put_header(to: &mut [u8], second: u8, sequence: u16, timestamp: u32, source: 
     to[1] = second;
 }
 
-// The headers of the first `count` blocks, the last of them first, and the primary's. The loop has a fixed number of turns and
-// no `continue`, so that it is unrolled and no array is copied.
+// The headers of the first `count` blocks, which have tags, the last of them first, and the primary's. The loop has a fixed number of
+// turns and no `continue`, so that it is unrolled and no array is copied; by the tags, turns without a block cost nothing.
 fn put_heads(to: &mut [u8], t140: u8, tags: [u64; Packet::LEVEL], count: usize)
-    requires { ⌜ (t140 < 128) × (count ≤ level) × (length (headersFor t140 tags count) ≤ length (now to)) ⌝ }
+    requires { ⌜ (t140 < 128) × (count ≤ level) × (length (headersFor t140 tags count) ≤ length (now to)) × TagFirst tags count ⌝ }
     ensures { λ _. ⌜ now (to .exit) ≡ over (headersFor t140 tags count) (now (to .entry)) ⌝ }
 {
     let mut i = Packet::LEVEL;
     let mut at = 0;
     while 0 < i {
         i -= 1;
-        if i < count {
-            let tag = tags[i];
+        let tag = tags[i];
+        if 0 < tag {
             put_head(&mut to[at..], t140, tag);
             at += 4;
         }

@@ -1,7 +1,7 @@
 use native.Mathlib.Omega.{arith}
 use borrow.Author.Needs.{needs}
-use Rattle.heading.proofs.second.Statement.{statement}
-use Rattle.heading.proofs.second.Tie as tie
+use Rattle.writer.proofs.heading.second.Statement.{statement}
+use Rattle.writer.proofs.heading.second.Tie as tie
 
 add-result : tie.Need-add-result
 add-result c = search needs

@@ -2,7 +2,7 @@ use lib.ListN.{set}
 use Rattle.base.specs.Arrays.{over}
 use Rattle.base.proofs.Lent.{length-over}
 use Rattle.base.proofs.Written.{Begun, begun-end, begun-store, lent-fits}
-use Prim.Native.Nat.{_+_, _-_, _≤_}
+use Prim.Native.Nat.{_+_, _-_, _≤_, _<_}
 use mathlib.Core.Path.{_≡_, _∙_, refl, ap}
 use mathlib.Core.List.{[], _∷_}
 use native.Mathlib.Omega.{arith}
@@ -10,10 +10,11 @@ use lib.ListN.{length}
 use borrow.Author.Needs.{needs}
 use denote.Ref.{now}
 use Rattle.packet_spec.specs.Limits.{level}
-use Rattle.heading.specs.internal.Headers.{headAt, headersFor}
-use Rattle.heading.proofs.Turns.{Turn, turn-none, turn-past, turn-end, turn-room, turn-fits, turn-next}
-use Rattle.heading.proofs.put_heads.Statement.{statement}
-use Rattle.heading.proofs.put_heads.Tie as tie
+use Rattle.carrying.proofs.Tags.{tag-below, tag-past}
+use Rattle.writer.specs.internal.Headers.{headAt, headersFor}
+use Rattle.writer.proofs.Turns.{Turn, turn-none, turn-past, turn-end, turn-room, turn-fits, turn-next}
+use Rattle.writer.proofs.heading.put_heads.Statement.{statement}
+use Rattle.writer.proofs.heading.put_heads.Tie as tie
 
 abbrev Inv-loop : tie.InvT-loop
 Inv-loop to₀ t140 count tags i₀ at₀ to i at = (i ≤ level) × Turn (headAt t140 tags) (t140 ∷ []) count to₀ to i at
@@ -28,12 +29,19 @@ room c =
     let l = c .loop in
     turn-room (headAt (a .t140) (a .t3)) (a .t140 ∷ []) (a .count) (now (a .to)) (l .to) (l .i) (l .at) (l .inv .1) (c .before .before .pre .2)
 
+-- a block with a tag is repeated
+below : (c : tie.Then1 Inv-loop μ-loop) → c .before .before .loop .i - 1 < c .before .before .before .before .args .count
+below c =
+    let st = c .before .before .before .before in
+    let l = c .before .before .loop in
+    tag-below (st .args .t3) (st .args .count) (st .pre .3) (l .i - 1) (omega (arith, l .inv .0, c .before .loop-test .taken)) (c .if1 .taken)
+
 -- the next header fits
 fits : (c : tie.Then1 Inv-loop μ-loop) → c .before .before .loop .at + 4 ≤ length (now (c .before .before .before .before .args .to))
 fits c =
     let a = c .before .before .before .before .args in
     let l = c .before .before .loop in
-    turn-fits (headAt (a .t140) (a .t3)) (a .t140 ∷ []) (a .count) (now (a .to)) (l .to) (l .i) (l .at) (l .inv .1) (c .before .before .before .before .pre .2) (c .before .loop-test .taken) (c .if1 .taken)
+    turn-fits (headAt (a .t140) (a .t3)) (a .t140 ∷ []) (a .count) (now (a .to)) (l .to) (l .i) (l .at) (l .inv .1) (c .before .before .before .before .pre .2) (c .before .loop-test .taken) (below c)
 
 -- none is left but the primary's
 left : (c : tie.After-loop Inv-loop μ-loop) → let a = c .before .before .before .args in
@@ -101,16 +109,18 @@ loop-again c =
     let t = c .before .before .before .before in
     let a = t .before .before .before .before .args in
     let l = t .before .before .loop in
-    (omega arith, turn-next (headAt (a .t140) (a .t3)) (a .t140 ∷ []) (a .count) (now (a .to)) (l .to) (l .i) (l .at) (l .inv .1) (t .before .before .before .before .pre .2) (t .before .loop-test .taken) (t .if1 .taken) (q .last .0) (q .ensures))
+    (omega arith, turn-next (headAt (a .t140) (a .t3)) (a .t140 ∷ []) (a .count) (now (a .to)) (l .to) (l .i) (l .at) (l .inv .1) (t .before .before .before .before .pre .2) (t .before .loop-test .taken) (below t) (q .last .0) (q .ensures))
 
 loop-less-2 : tie.Need-loop-less-2 Inv-loop μ-loop
 loop-less-2 c = omega arith
 
 loop-again-2 : tie.Need-loop-again-2 Inv-loop μ-loop
 loop-again-2 c =
-    let a = c .before .before .before .before .args in
+    let st = c .before .before .before .before in
+    let a = st .args in
     let l = c .before .before .loop in
-    (omega arith, turn-past (headAt (a .t140) (a .t3)) (a .t140 ∷ []) (a .count) (now (a .to)) (l .to) (l .i) (l .at) (l .inv .1) (c .if1 .left))
+    let past = tag-past (a .t3) (a .count) (st .pre .3) (l .i - 1) (omega (arith, l .inv .0, c .before .loop-test .taken)) (c .if1 .left) in
+    (omega arith, turn-past (headAt (a .t140) (a .t3)) (a .t140 ∷ []) (a .count) (now (a .to)) (l .to) (l .i) (l .at) (l .inv .1) past)
 
 slice-write-to : tie.Need-slice-write-to Inv-loop μ-loop
 slice-write-to c = omega (arith, room (c .before), ends c)

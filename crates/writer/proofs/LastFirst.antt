@@ -4,7 +4,7 @@ use mathlib.Core.Path.{_≡_, refl}
 use mathlib.Core.List.{List, _++_}
 use native.Mathlib.Nat.{not-suc-le-zero}
 use native.Mathlib.Omega.{arith}
-use Rattle.heading.specs.internal.LastFirst.{lastFirst}
+use Rattle.writer.specs.internal.LastFirst.{lastFirst}
 
 module _ (f : ℕ → List ℕ) (x : List ℕ) where
   pub last-none : lastFirst f x 0 ≡ x

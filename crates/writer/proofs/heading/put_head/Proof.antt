@@ -2,10 +2,10 @@ use native.Mathlib.Omega.{arith}
 use lib.ListN.{length-set}
 use denote.Ref.{now}
 use Rattle.base.proofs.Stores.{sets-over}
-use Rattle.heading.specs.internal.Headers.{headOf}
+use Rattle.writer.specs.internal.Headers.{headOf}
 use borrow.Author.Needs.{needs}
-use Rattle.heading.proofs.put_head.Statement.{statement}
-use Rattle.heading.proofs.put_head.Tie as tie
+use Rattle.writer.proofs.heading.put_head.Statement.{statement}
+use Rattle.writer.proofs.heading.put_head.Tie as tie
 
 add-to : tie.Need-add-to
 add-to c = search needs

@@ -7,8 +7,8 @@ use mir.Syntax.{w8}
 use mir.Val.{Fits}
 use denote.Ref.{now}
 use Rattle.base.specs.Arrays.{over}
-use Rattle.heading.proofs.put_header.Statement.{statement}
-use Rattle.heading.proofs.put_header.Tie as tie
+use Rattle.writer.proofs.heading.put_header.Statement.{statement}
+use Rattle.writer.proofs.heading.put_header.Tie as tie
 
 -- the bytes stored, in the order of the code
 stored : (x0 x1 x2 x3 x4 x5 x6 x7 x8 x9 x10 x11 : ℕ) (p : List ℕ) → 12 ≤ length p

@@ -1,7 +1,7 @@
 use borrow.Author.Needs.{needs}
 use Rattle.base.proofs.Cases.{cases}
-use Rattle.heading.proofs.kind.Statement.{statement}
-use Rattle.heading.proofs.kind.Tie as tie
+use Rattle.writer.proofs.heading.kind.Statement.{statement}
+use Rattle.writer.proofs.heading.kind.Tie as tie
 
 returns : tie.Need-returns
 returns c = (search cases, search needs)

@@ -1,3 +1,0 @@
-pub mod LastFirst
-pub mod Turns
-pub mod Headers
