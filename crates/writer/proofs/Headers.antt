@@ -8,12 +8,12 @@ use lib.Dec.{eqb}
 use lib.ListN.{length}
 use borrow.Author.Tests.{eq-eqb, ne-eqb}
 use Rattle.writer.specs.declared.heading.Front.{Front}
-use Rattle.writer.specs.internal.Headers.{headAt, headersFor, headsWith, frontWith, frontSize}
+use Rattle.writer.specs.internal.Headers.{headerAt, headersFor, headsWith, frontWith, frontSize}
 use Rattle.writer.proofs.LastFirst.{last-none, last-more}
 
 heads-size : (t140 : ℕ) (tags : List ℕ) (n : ℕ) → length (headersFor t140 tags n) ≡ 4 * n + 1
-heads-size t140 tags zero = ap length (last-none (headAt t140 tags) (t140 ∷ []))
-heads-size t140 tags (suc n) = omega (arith, ap length (last-more (headAt t140 tags) (t140 ∷ []) n), heads-size t140 tags n)
+heads-size t140 tags zero = ap length (last-none (headerAt t140 tags) (t140 ∷ []))
+heads-size t140 tags (suc n) = omega (arith, ap length (last-more (headerAt t140 tags) (t140 ∷ []) n), heads-size t140 tags n)
 
 module _ (f : Front) (n : ℕ) where
   pub heads-plain : f .level ≡ 0 → headsWith f n ≡ []

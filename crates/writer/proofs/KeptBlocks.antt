@@ -21,7 +21,7 @@ use Rattle.carrying.specs.internal.Young.{young, youngRun, textTotal}
 use Rattle.carrying.proofs.YoungRun.{AllYoung}
 use Rattle.carrying.proofs.Tags.{AreTags, tag-age, tag-len}
 use Rattle.writer.specs.internal.LastFirst.{lastFirst}
-use Rattle.writer.specs.internal.Headers.{headAt, headersFor}
+use Rattle.writer.specs.internal.Headers.{headerAt, headersFor}
 use Rattle.writer.proofs.LastFirst.{last-none, last-more}
 use Rattle.writer.specs.internal.Parts.{textAt}
 use Rattle.writer.proofs.Slots.{kept-length}
@@ -115,7 +115,7 @@ module _ (texts : List ℕ) (room : ℕ) where
 
     pub kept-heads : length texts ≡ textsSize → (tags : List ℕ) (t140 n : ℕ) → n ≤ length ats → AllYoung t ats n → AreTags t lens ats n tags
         → headsBytes t140 (map (repeated t) (reverse (take n kept))) ≡ headersFor t140 tags n
-    kept-heads whole tags t140 zero h all are = sym (last-none (headAt t140 tags) (t140 ∷ []))
+    kept-heads whole tags t140 zero h all are = sym (last-none (headerAt t140 tags) (t140 ∷ []))
     kept-heads whole tags t140 (suc n) h all are =
         let m = getD tags n 0 in
         let e = are n (omega arith) in
@@ -124,7 +124,7 @@ module _ (texts : List ℕ) (room : ℕ) where
         kept-length texts whole room (suc n) (getD lens n 0) ∙ sym (ap (λ (k : ℕ). k % 256) e ∙ tag-len t (getD lens n 0) (getD ats n 0)) in
         ap (λ (l : List SentBlock). headsBytes t140 (map (repeated t) l)) (last-kept n h)
         ∙ (λ i. blockHeader t140 (age i) (size i) ++ kept-heads whole tags t140 n (omega arith) (λ j k. all j (omega (arith, k))) (λ j k. are j (omega (arith, k))) i)
-        ∙ sym (last-more (headAt t140 tags) (t140 ∷ []) n)
+        ∙ sym (last-more (headerAt t140 tags) (t140 ∷ []) n)
 
     pub kept-texts : (tags x : List ℕ) (n : ℕ) → n ≤ length ats → AreTags t lens ats n tags
         → joined (blocksOf (map (repeated t) (reverse (take n kept))) x) ≡ lastFirst (textAt texts room tags) x n

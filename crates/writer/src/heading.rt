@@ -7,7 +7,7 @@ ghost use lib.ListN.{length};
 ghost use Rattle.base.specs.Arrays.{over};
 ghost use Rattle.packet_spec.specs.Limits.{level};
 ghost use Rattle.packet_spec.specs.Encoding.{markerBit, fixedHeader};
-ghost use Rattle.writer.specs.internal.Headers.{headOf, headersFor, frontWith, frontSize};
+ghost use Rattle.writer.specs.internal.Headers.{headerFor, headersFor, frontWith, frontSize};
 ghost use Rattle.carrying.specs.internal.Young.{TagFirst};
 use packet::Packet;
 
@@ -121,7 +121,7 @@ fn put_heads(to: &mut [u8], t140: u8, tags: [u64; Packet::LEVEL], count: usize)
 // The header of an older block, of 4 bytes.
 fn put_head(to: &mut [u8], t140: u8, tag: u64)
     requires { ⌜ (t140 < 128) × (4 ≤ length (now to)) ⌝ }
-    ensures { λ _. ⌜ now (to .exit) ≡ over (headOf t140 tag) (now (to .entry)) ⌝ }
+    ensures { λ _. ⌜ now (to .exit) ≡ over (headerFor t140 tag) (now (to .entry)) ⌝ }
 {
     let offset = tag / 256 % 16384;
     let size = tag % 256;

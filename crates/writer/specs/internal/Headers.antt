@@ -8,16 +8,16 @@ use Rattle.writer.specs.declared.heading.Front.{Front}
 use Rattle.packet_spec.specs.Encoding.{markerBit, fixedHeader, blockHeader}
 use Rattle.writer.specs.internal.LastFirst.{lastFirst}
 
--- the header of a block, by its age and the bytes of its text, in one number: 14 bits and 8
-abbrev pub headOf : ℕ → ℕ → List ℕ
-headOf t140 m = blockHeader t140 (m / 256 % 16384) (m % 256)
+-- the header of a block, by its tag: 14 bits of age and 8 of length
+abbrev pub headerFor : ℕ → ℕ → List ℕ
+headerFor t140 m = blockHeader t140 (m / 256 % 16384) (m % 256)
 
-abbrev pub headAt : ℕ → List ℕ → ℕ → List ℕ
-headAt t140 tags i = headOf t140 (getD tags i 0)
+abbrev pub headerAt : ℕ → List ℕ → ℕ → List ℕ
+headerAt t140 tags i = headerFor t140 (getD tags i 0)
 
 -- the headers of the first n blocks, oldest first, and the primary's
 abbrev pub headersFor : ℕ → List ℕ → ℕ → List ℕ
-headersFor t140 tags n = lastFirst (headAt t140 tags) (t140 ∷ []) n
+headersFor t140 tags n = lastFirst (headerAt t140 tags) (t140 ∷ []) n
 
 -- M and the payload type
 abbrev pub secondOf : Front → ℕ

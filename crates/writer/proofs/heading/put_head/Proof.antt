@@ -2,7 +2,7 @@ use native.Mathlib.Omega.{arith}
 use lib.ListN.{length-set}
 use denote.Ref.{now}
 use Rattle.base.proofs.Stores.{sets-over}
-use Rattle.writer.specs.internal.Headers.{headOf}
+use Rattle.writer.specs.internal.Headers.{headerFor}
 use borrow.Author.Needs.{needs}
 use Rattle.writer.proofs.heading.put_head.Statement.{statement}
 use Rattle.writer.proofs.heading.put_head.Tie as tie
@@ -43,7 +43,7 @@ same-length c = simp length-set
 returns : tie.Need-returns
 returns c =
     let a = c .args in
-    sets-over (headOf (a .t140) (a .tag)) (now (a .to)) (c .pre .1)
+    sets-over (headerFor (a .t140) (a .tag)) (now (a .to)) (c .pre .1)
 
 pub put-head-spec : {M : Type 1} → statement M
 put-head-spec =

@@ -11,13 +11,13 @@ use borrow.Author.Needs.{needs}
 use denote.Ref.{now}
 use Rattle.packet_spec.specs.Limits.{level}
 use Rattle.carrying.proofs.Tags.{tag-below, tag-past}
-use Rattle.writer.specs.internal.Headers.{headAt, headersFor}
+use Rattle.writer.specs.internal.Headers.{headerAt, headersFor}
 use Rattle.writer.proofs.Turns.{Turn, turn-none, turn-past, turn-end, turn-room, turn-fits, turn-next}
 use Rattle.writer.proofs.heading.put_heads.Statement.{statement}
 use Rattle.writer.proofs.heading.put_heads.Tie as tie
 
 abbrev Inv-loop : tie.InvT-loop
-Inv-loop to₀ t140 count tags i₀ at₀ to i at = (i ≤ level) × Turn (headAt t140 tags) (t140 ∷ []) count to₀ to i at
+Inv-loop to₀ t140 count tags i₀ at₀ to i at = (i ≤ level) × Turn (headerAt t140 tags) (t140 ∷ []) count to₀ to i at
 
 abbrev μ-loop : tie.MeasureT-loop
 μ-loop to₀ t140 count tags i₀ at₀ to i at = i
@@ -27,7 +27,7 @@ room : (c : tie.At-loop Inv-loop μ-loop) → length (c .loop .to) ≡ length (n
 room c =
     let a = c .before .before .args in
     let l = c .loop in
-    turn-room (headAt (a .t140) (a .t3)) (a .t140 ∷ []) (a .count) (now (a .to)) (l .to) (l .i) (l .at) (l .inv .1) (c .before .before .pre .2)
+    turn-room (headerAt (a .t140) (a .t3)) (a .t140 ∷ []) (a .count) (now (a .to)) (l .to) (l .i) (l .at) (l .inv .1) (c .before .before .pre .2)
 
 -- a block with a tag is repeated
 below : (c : tie.Then1 Inv-loop μ-loop) → c .before .before .loop .i - 1 < c .before .before .before .before .args .count
@@ -41,7 +41,7 @@ fits : (c : tie.Then1 Inv-loop μ-loop) → c .before .before .loop .at + 4 ≤ 
 fits c =
     let a = c .before .before .before .before .args in
     let l = c .before .before .loop in
-    turn-fits (headAt (a .t140) (a .t3)) (a .t140 ∷ []) (a .count) (now (a .to)) (l .to) (l .i) (l .at) (l .inv .1) (c .before .before .before .before .pre .2) (c .before .loop-test .taken) (below c)
+    turn-fits (headerAt (a .t140) (a .t3)) (a .t140 ∷ []) (a .count) (now (a .to)) (l .to) (l .i) (l .at) (l .inv .1) (c .before .before .before .before .pre .2) (c .before .loop-test .taken) (below c)
 
 -- none is left but the primary's
 left : (c : tie.After-loop Inv-loop μ-loop) → let a = c .before .before .before .args in
@@ -49,7 +49,7 @@ left : (c : tie.After-loop Inv-loop μ-loop) → let a = c .before .before .befo
 left c =
     let a = c .before .before .before .args in
     let l = c .before .loop in
-    turn-end (headAt (a .t140) (a .t3)) (a .t140 ∷ []) (a .count) (now (a .to)) (l .to) (l .i) (l .at) (l .inv .1) (c .loop-test .left)
+    turn-end (headerAt (a .t140) (a .t3)) (a .t140 ∷ []) (a .count) (now (a .to)) (l .to) (l .i) (l .at) (l .inv .1) (c .loop-test .left)
 
 ends : (c : tie.After-loop Inv-loop μ-loop) → let a = c .before .before .before .args in c .before .loop .at + 1 ≡ length (headersFor (a .t140) (a .t3) (a .count))
 ends c =
@@ -68,7 +68,7 @@ loop-holds : tie.Need-loop-holds Inv-loop μ-loop
 unfolding level
 loop-holds c =
     let a = c .before .args in
-    (omega arith, turn-none (headAt (a .t140) (a .t3)) (a .t140 ∷ []) (a .count) (now (a .to)) level (c .before .pre .1))
+    (omega arith, turn-none (headerAt (a .t140) (a .t3)) (a .t140 ∷ []) (a .count) (now (a .to)) level (c .before .pre .1))
 
 sub-i : tie.Need-sub-i Inv-loop μ-loop
 sub-i c = c .loop-test .taken
@@ -109,7 +109,7 @@ loop-again c =
     let t = c .before .before .before .before in
     let a = t .before .before .before .before .args in
     let l = t .before .before .loop in
-    (omega arith, turn-next (headAt (a .t140) (a .t3)) (a .t140 ∷ []) (a .count) (now (a .to)) (l .to) (l .i) (l .at) (l .inv .1) (t .before .before .before .before .pre .2) (t .before .loop-test .taken) (below t) (q .last .0) (q .ensures))
+    (omega arith, turn-next (headerAt (a .t140) (a .t3)) (a .t140 ∷ []) (a .count) (now (a .to)) (l .to) (l .i) (l .at) (l .inv .1) (t .before .before .before .before .pre .2) (t .before .loop-test .taken) (below t) (q .last .0) (q .ensures))
 
 loop-less-2 : tie.Need-loop-less-2 Inv-loop μ-loop
 loop-less-2 c = omega arith
@@ -120,7 +120,7 @@ loop-again-2 c =
     let a = st .args in
     let l = c .before .before .loop in
     let past = tag-past (a .t3) (a .count) (st .pre .3) (l .i - 1) (omega (arith, l .inv .0, c .before .loop-test .taken)) (c .if1 .left) in
-    (omega arith, turn-past (headAt (a .t140) (a .t3)) (a .t140 ∷ []) (a .count) (now (a .to)) (l .to) (l .i) (l .at) (l .inv .1) past)
+    (omega arith, turn-past (headerAt (a .t140) (a .t3)) (a .t140 ∷ []) (a .count) (now (a .to)) (l .to) (l .i) (l .at) (l .inv .1) past)
 
 slice-write-to : tie.Need-slice-write-to Inv-loop μ-loop
 slice-write-to c = omega (arith, room (c .before), ends c)
