@@ -1,4 +1,6 @@
 // What was read of a journal is acted upon: an open, a packet, the end or a break.
+#![tactic(auto)]
+
 ghost use Rattle.std.specs.Prelude.{◌≡◌};
 ghost use Rattle.journal_spec.specs.Lines.{broken_line};
 ghost use Rattle.counts.specs.Counts.{line_of};
@@ -10,7 +12,7 @@ use parts::Part;
 use receiver::Receiver;
 
 // The receiver and the counts from there on, and what is due.
-#[derive(Drop)]
+#[derive(Clone, Copy)]
 pub struct Acted {
     pub receiver: Receiver,
     pub counts: Counts,

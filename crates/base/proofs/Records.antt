@@ -14,7 +14,7 @@ use Prim.Native.Nat.{ℕ, zero}
 use mathlib.Core.Bool.{Bool, not}
 use mathlib.Core.List.{List, [], ◌∷◌}
 use seplogic.Ra.Ura.{Ura}
-use seplogic.Ra.TreeShare.{full_share}
+use base.Fraction.{full_share}
 use lib.Dec.{T as Holds}
 use mir.Syntax.{Width, Ty, ty_int, ty_bool, Opd as Operand, Place, place, copy, Body, skip, seq, cond}
 use mir.Val.{Val, WT, has_ty, vint, vbool, of_z}

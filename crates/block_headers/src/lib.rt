@@ -1,4 +1,6 @@
 // The block headers of a payload (RFC 2198, section 3).
+#![tactic(auto)]
+
 ghost use Rattle.std.specs.Prelude.{◌≡◌, [], ◌&&◌, ◌+◌, ◌≤◌, ltb, length, drop};
 ghost use Rattle.std.proofs.Math.Seq.{slice};
 ghost use Rattle.packet_spec.specs.Limits.{level};
@@ -10,7 +12,7 @@ ghost use Rattle.block_headers.specs.Internal.Seen.{headers_seen, refused_heads,
 use packet::{Outcome, Packet, Refusal};
 
 // An older block's header.
-#[derive(Drop)]
+#[derive(Clone, Copy)]
 pub struct Head {
     pub offset: u16,
     pub len: u16,
@@ -18,7 +20,7 @@ pub struct Head {
 
 // What the headers say: how many older blocks there are, where the oldest starts, where the primary does, behind all of them, and
 // whether each is older than the next. All zeros where the headers are refused.
-#[derive(Drop)]
+#[derive(Clone, Copy)]
 pub struct Headers {
     pub outcome: Outcome,
     pub count: usize,

@@ -1,4 +1,6 @@
 // The blocks of a payload (RFC 2198, section 3): where they lie, and whether their ages fall and they are text.
+#![tactic(auto)]
+
 mod judging;
 
 ghost use Rattle.std.specs.Prelude.{◌≡◌, ◌+◌, ◌*◌, ◌≤◌, length, drop};
@@ -14,7 +16,7 @@ use block_headers::Headers;
 use packet::{Outcome, Packet, Refusal};
 
 // How many older blocks there are, where the oldest starts, and where the primary does. All zeros where they are refused.
-#[derive(Drop)]
+#[derive(Clone, Copy)]
 pub struct Blocks {
     pub outcome: Outcome,
     pub count: usize,

@@ -1,5 +1,7 @@
 // What the exported calls answer, in the numbers and records of their callers. A flag in a record is a byte: 0 is false,
 // and any other value true.
+#![tactic(auto)]
+
 pub mod packets;
 
 ghost use Rattle.std.specs.Prelude.{◌≡◌};
@@ -39,7 +41,7 @@ pub fn expected_of(expects: u8, source: u32) -> Expected
 // What bytes are as UTF-8: text of so many characters, or not, and then the place of the first byte at which they can no
 // longer be.
 #[repr(C)]
-#[derive(Drop)]
+#[derive(Clone, Copy)]
 pub struct TextAnswer {
     pub is_text: u8,
     pub characters: usize,
@@ -65,7 +67,7 @@ pub fn text(bytes: &[u8]) -> TextAnswer
 
 // A receiver, as its callers lend it.
 #[repr(C)]
-#[derive(Drop)]
+#[derive(Clone, Copy)]
 pub struct ReceiverRecord {
     pub t140: u8,
     pub red: u8,
@@ -167,7 +169,7 @@ pub fn is_late(answer: Answer) -> bool
 // What a step answers, for a caller in C: the packet's course, and what it gives. A late packet and a jump have their distance
 // alone; a refused packet has nothing to tell. The text given is the packet's bytes from `from` up to `to`.
 #[repr(C)]
-#[derive(Drop)]
+#[derive(Clone, Copy)]
 pub struct Step {
     pub course: u8,
     pub loss: u16,

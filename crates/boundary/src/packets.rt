@@ -10,7 +10,7 @@ use packet::Packet;
 
 // An older block: its time offset, and where it lies in the packet.
 #[repr(C)]
-#[derive(Drop)]
+#[derive(Clone, Copy)]
 pub struct Older {
     pub offset: u16,
     pub at: usize,
@@ -20,7 +20,7 @@ pub struct Older {
 // What an accepted packet holds: the M bit, 0 or 1, its older blocks, oldest first, of which the first `count` count, and the
 // primary from `primary` up to `end`.
 #[repr(C)]
-#[derive(Drop)]
+#[derive(Clone, Copy)]
 pub struct PacketRecord {
     pub marker: u8,
     pub sequence: u16,

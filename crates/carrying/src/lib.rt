@@ -1,4 +1,6 @@
 // Which of the blocks kept a packet repeats.
+#![tactic(auto)]
+
 ghost use Rattle.std.specs.Prelude.{◌≡◌, ◌*◌, ◌≤◌, take};
 ghost use Rattle.packet_spec.specs.Limits.{level};
 ghost use Rattle.sender_spec.specs.Limits.{room_size};
@@ -7,7 +9,7 @@ ghost use Rattle.carrying.specs.Internal.Young.{young, young_run, text_total, ta
 use packet::Packet;
 
 // The limits of a block that is written.
-#[derive(Drop)]
+#[derive(Clone, Copy)]
 pub struct Block {}
 
 impl Block {
@@ -20,7 +22,7 @@ impl Block {
 
 // How many older blocks a packet carries, the bytes of their texts, and a tag of each: its age and the bytes of its text, in one
 // number above 0. Tags behind the last are 0.
-#[derive(Drop)]
+#[derive(Clone, Copy)]
 pub struct Carried {
     pub count: usize,
     pub text: usize,

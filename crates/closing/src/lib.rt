@@ -1,5 +1,7 @@
 // The lines that close a transcript, put into the front of a lent space as far as they fit; the bytes behind them stay. Each
 // function answers how many bytes were put.
+#![tactic(auto)]
+
 ghost use Rattle.std.specs.Prelude.{◌≡◌, [], ◌∷◌, ◌++◌, ◌≤◌, length};
 ghost use Rattle.base.specs.Arrays.{over};
 ghost use Rattle.journal_spec.specs.Lines.{decimal, counts_line, broken_line};

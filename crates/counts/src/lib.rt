@@ -1,4 +1,6 @@
 // What a transcript's last line counts.
+#![tactic(auto)]
+
 ghost use Rattle.std.specs.Prelude.{◌≡◌};
 ghost use Rattle.receiver.specs.View.{step_answer};
 ghost use Rattle.counts.specs.Counts.{no_counts, counted, wrapped64, counts_fit, Counting};
@@ -6,7 +8,7 @@ ghost use Rattle.counts.specs.Counts.{no_counts, counted, wrapped64, counts_fit,
 use receiver::Answer;
 
 // Of the packets read: those neither late nor refused, those late (jumps among them), the blocks lost, and those refused.
-#[derive(Drop)]
+#[derive(Clone, Copy)]
 pub struct Counts {
     pub packets: u64,
     pub late: u64,

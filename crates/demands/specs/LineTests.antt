@@ -140,8 +140,8 @@ idle R t kept last next = record {
 }
 
 -- a block sent at a clock
-infixl 68 ◌sentAt◌
-abbrev pub ◌sentAt◌ : List ℕ → ℕ → state.SentBlock
+infixl 68 ◌sent_at◌
+abbrev pub ◌sent_at◌ : List ℕ → ℕ → state.SentBlock
 x sent_at t = record { text = x; at = t }
 
 -- T11's and T12's sender, with this latest clock: behind the packet at 0, behind one more at 300, and behind one more at 600

@@ -1,4 +1,6 @@
 // What is due of a transcript, and how it is given.
+#![tactic(auto)]
+
 ghost use Rattle.std.specs.Prelude.{◌≡◌, length};
 ghost use Rattle.base.specs.Arrays.{over};
 ghost use Rattle.receiver.specs.View.{step_answer};
@@ -10,7 +12,7 @@ use parts::Part;
 use receiver::Answer;
 
 // So many marks, then the bytes from `from` up to `to` of a packet that is lent with it.
-#[derive(Drop)]
+#[derive(Clone, Copy)]
 pub struct Due {
     pub marks: usize,
     pub from: usize,
@@ -18,7 +20,7 @@ pub struct Due {
 }
 
 // What is still due, and how many bytes of the space were filled.
-#[derive(Drop)]
+#[derive(Clone, Copy)]
 pub struct Gave {
     pub due: Due,
     pub count: usize,

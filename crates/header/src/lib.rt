@@ -1,4 +1,6 @@
 // The packet header (RFC 3550, section 5.1): checks 3 and 10 to 16, the fixed fields, and where the payload lies.
+#![tactic(auto)]
+
 ghost use Rattle.std.specs.Prelude.{◌≡◌, ◌≤◌, length, drop};
 ghost use Rattle.base.specs.Checks.{checked};
 ghost use Rattle.packet_spec.specs.Limits.{shortest};
@@ -13,7 +15,7 @@ use packet::{Expected, Outcome, Refusal};
 
 // Whether the payload is plain, of type T140; the fixed fields; where the payload starts, and where it ends before the padding.
 // All zeros where the header is refused.
-#[derive(Drop)]
+#[derive(Clone, Copy)]
 pub struct Header {
     pub outcome: Outcome,
     pub plain: bool,

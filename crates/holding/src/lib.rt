@@ -1,5 +1,7 @@
 // A receiver that may hold one packet (02, request 5): a forward packet that would cause loss waits for those before it. The packet
 // itself stays with the caller, who lends it back with each call.
+#![tactic(auto)]
+
 mod arriving;
 mod calling;
 
@@ -17,7 +19,7 @@ use receiver::Receiver;
 
 // A receiver, of the packets handed out; whether a packet is held, its number and the clock of its arrival, 0 where none is; and the
 // latest clock.
-#[derive(Drop)]
+#[derive(Clone, Copy)]
 pub struct HoldingReceiver {
     pub receiver: Receiver,
     pub has_held: bool,
@@ -26,14 +28,14 @@ pub struct HoldingReceiver {
     pub clock: u64,
 }
 
-#[derive(Drop)]
+#[derive(Clone, Copy)]
 pub struct Opened {
     pub outcome: Outcome,
     pub receiver: HoldingReceiver,
 }
 
 // Which of a call's two packets: the one that is held, or the new one.
-#[derive(Drop)]
+#[derive(Clone, Copy)]
 pub enum Which {
     Neither,
     Held,
@@ -43,7 +45,7 @@ pub enum Which {
 // What a call answers, and with it which packet to keep. `Waits`, a late packet and a jump give nothing. `Gives` are the last `given`
 // blocks of packet `of`, which lie from `from` up to `to` in it; with `again` the new packet is to be given again. A break is the new
 // packet's, and none is kept.
-#[derive(Drop)]
+#[derive(Clone, Copy)]
 pub enum HoldingAnswer {
     Refused(Refusal),
     Waits {
@@ -78,14 +80,14 @@ pub enum HoldingAnswer {
 }
 
 // The receiver for the next call, and the answer.
-#[derive(Drop)]
+#[derive(Clone, Copy)]
 pub struct Advanced {
     pub receiver: HoldingReceiver,
     pub answer: HoldingAnswer,
 }
 
 // The same with the text: a part of either the held packet or the new one.
-#[derive(Drop)]
+#[derive(Clone, Copy)]
 pub struct Stepped<'a> {
     pub receiver: HoldingReceiver,
     pub answer: HoldingAnswer,

@@ -1,4 +1,6 @@
 // What the exported calls of a receiver that holds answer, in the records of their callers.
+#![tactic(auto)]
+
 ghost use Rattle.std.specs.Prelude.{◌≡◌};
 ghost use Rattle.std.proofs.Math.Option.{none, some};
 ghost use Rattle.holding_spec.specs.Opening.{open_holding};
@@ -12,7 +14,7 @@ use packet::Outcome;
 
 // A receiver that holds, as its callers lend it.
 #[repr(C)]
-#[derive(Drop)]
+#[derive(Clone, Copy)]
 pub struct HoldingRecord {
     pub receiver: ReceiverRecord,
     pub has_held: u8,
@@ -24,7 +26,7 @@ pub struct HoldingRecord {
 // What a call answers: which packet the text is of, which to keep, whether the new one is to be given again; and the step of the
 // packet that is given, or, where none is, the course and the distance of the new one.
 #[repr(C)]
-#[derive(Drop)]
+#[derive(Clone, Copy)]
 pub struct HoldingStep {
     pub of: u8,
     pub keep: u8,
@@ -42,14 +44,14 @@ impl HoldingStep {
 }
 
 // An opening: its number, and the record it leaves.
-#[derive(Drop)]
+#[derive(Clone, Copy)]
 pub struct Opening {
     pub number: u8,
     pub receiver: HoldingRecord,
 }
 
 // A call: its number, and, where it is not refused, the records that it leaves.
-#[derive(Drop)]
+#[derive(Clone, Copy)]
 pub struct Call {
     pub refused: bool,
     pub number: u8,

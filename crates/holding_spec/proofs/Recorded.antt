@@ -121,16 +121,16 @@ module _ (S : BlockSender) (ordered : InOrder S) (t140 red : ℕ) (packet : ℕ 
     same_record : (kept : Option ℕ) → told ≡ core.record_from (at S ordered n kept) (map (sent S) ks)
     near : NearFrom S n ks
 
-  abbrev From : List Call → List ℕ → Type 0
-  From cs ks = (n source e : ℕ) (has_kept : Bool) (kept t : ℕ) (j : Option ℕ) (h : Option Arrived) → e ≡ expected_after n → Fits n source j h
+  abbrev From : List Call → Type 0
+  From cs = (n source e : ℕ) (has_kept : Bool) (kept t : ℕ) (j : Option ℕ) (h : Option Arrived) (ks : List ℕ) → e ≡ expected_after n → Fits n source j h
       → Hands (record { newest = some n; kept = j }) (line source e has_kept kept t h) cs ks → Good n (record_of holding_step (line source e has_kept kept t h) cs) ks
 
   turn_good : (n source e : ℕ) (has_kept : Bool) (kept t₀ : ℕ) (h₀ : Option Arrived) (j k : Option ℕ) (c : Call) (X : HoldingStep) (cs : List Call) (ks : List ℕ)
-      → e ≡ expected_after n → Turn n source e c.clock j k c.lent (new_bytes c.packet) X → From cs ks
+      → e ≡ expected_after n → Turn n source e c.clock j k c.lent (new_bytes c.packet) X → From cs
       → Hands (behind S packet (record { newest = some n; kept = j }) k X.answer) X.receiver cs ks
       → Good n (entries_of (line source e has_kept kept t₀ h₀) c X.answer ++ record_of holding_step X.receiver cs) (listed (handed (record { newest = some n; kept = j }) k X.answer) ++ ks)
-  turn_good n source e has_kept kept t₀ h₀ j k c X cs ks is_n (turns.waits_on hk kp h z keep f) ih rest = ih n source e hk kp c.clock (chosen keep j k) h is_n f rest
-  turn_good n source e has_kept kept t₀ h₀ j k c X cs ks is_n (turns.passes_over hk kp h z keep f) ih rest = ih n source e hk kp c.clock (chosen keep j k) h is_n f rest
+  turn_good n source e has_kept kept t₀ h₀ j k c X cs ks is_n (turns.waits_on hk kp h z keep f) ih rest = ih n source e hk kp c.clock (chosen keep j k) h ks is_n f rest
+  turn_good n source e has_kept kept t₀ h₀ j k c X cs ks is_n (turns.passes_over hk kp h z keep f) ih rest = ih n source e hk kp c.clock (chosen keep j k) h ks is_n f rest
   turn_good n source e has_kept kept t₀ h₀ j k c X cs ks is_n (turns.goes_out hk kp h of keep m x ch same a f) ih rest =
       let y = x.content in
       let from_source : y.source ≡ source = (of_one_source level source t140 red x.bytes y a.read).1 in
@@ -141,7 +141,7 @@ module _ (S : BlockSender) (ordered : InOrder S) (t140 red : ℕ) (packet : ℕ 
       let newest_is : newer S packet (some n) (chosen of j k) ≡ some (S.newest m) = ap (newer S packet (some n)) ch ∙ ap some larger in
       let rest' : Hands (record { newest = some (S.newest m); kept = chosen keep j k }) left cs ks =
       subst (λ (q : Option ℕ). Hands (record { newest = q; kept = chosen keep j k }) left cs ks) newest_is rest in
-      let g = ih (S.newest m) y.source (next y.sequence) hk kp c.clock (chosen keep j k) h is_m (subst (λ (q : ℕ). Fits (S.newest m) q (chosen keep j k) h) (sym from_source) f) rest' in
+      let g = ih (S.newest m) y.source (next y.sequence) hk kp c.clock (chosen keep j k) h ks is_m (subst (λ (q : ℕ). Fits (S.newest m) q (chosen keep j k) h) (sym from_source) f) rest' in
       let out : listed (chosen of j k) ++ ks ≡ m ∷ ks = ap (λ (q : Option ℕ). listed q ++ ks) ch in
       record {
         same_record = λ kept'.
@@ -152,19 +152,19 @@ module _ (S : BlockSender) (ordered : InOrder S) (t140 red : ℕ) (packet : ℕ 
         near = subst (NearFrom S n) (sym out) (a.near, omega arith, subst (λ (q : ℕ). NearFrom S q ks) (sym larger) g.near);
       }
 
-  from : (cs : List Call) (ks : List ℕ) → From cs ks
-  from [] ks n source e has_kept kept t j h is_n f end = record { same_record = λ _. refl; near = tt }
-  from (c₁ ∷ cs) ks n source e has_kept kept t j h is_n f (refused_call c x rest) =
+  from : (cs : List Call) → From cs
+  from [] n source e has_kept kept t j h ks is_n f end = record { same_record = λ _. refl; near = tt }
+  from (c₁ ∷ cs) n source e has_kept kept t j h ks is_n f (refused_call c x rest) =
       let s = line source e has_kept kept t h in
       let same = refused_stays s c.clock c.lent c.packet x in
-      let g = from cs ks n source e has_kept kept t j h is_n f (subst (λ (q : HoldingReceiver). Hands (record { newest = some n; kept = j }) q cs ks) same rest) in
+      let g = from cs n source e has_kept kept t j h ks is_n f (subst (λ (q : HoldingReceiver). Hands (record { newest = some n; kept = j }) q cs ks) same rest) in
       record {
         same_record = λ kept'. ap₂ {C = List Entry} (λ p q. p ++ q) (refused_adds s c (holding_step s c.clock c.lent c.packet).answer x) (ap (λ (q : HoldingReceiver). record_of holding_step q cs) same ∙ g.same_record kept');
         near = g.near;
       }
-  from (c ∷ cs) ks n source e has_kept kept t₀ j h is_n f (accepted t lent k {ks = ks'} ok u w rest) =
+  from (c ∷ cs) n source e has_kept kept t₀ j h ks is_n f (accepted t lent k {ks = ks'} ok u w rest) =
       turn_good n source e has_kept kept t₀ h j k (record { clock = t; lent = lent; packet = arriving S packet k }) (holding_step (line source e has_kept kept t₀ h) t lent (arriving S packet k)) cs ks' is_n
-      (turn n source e has_kept kept t₀ j h is_n f t lent k ok u w) (from cs ks') rest
+      (turn n source e has_kept kept t₀ j h is_n f t lent k ok u w) (from cs) rest
 
   -- before the first packet
   abbrev unheard : ℕ → HoldingReceiver
@@ -201,7 +201,7 @@ module _ (S : BlockSender) (ordered : InOrder S) (t140 red : ℕ) (packet : ℕ 
   first_good t₀ t lent k X cs ks waits_on ih rest = ih rest
   first_good t₀ t lent k X cs ks (opens m y q) ih rest =
       let p : packet_of y ≡ sent S m = reads m y q in
-      let g = from cs ks (S.newest m) y.source (next y.sequence) false 0 t none none (ap (λ (x : core.Packet). next x.sequence) p) turns.nothing rest in
+      let g = from cs (S.newest m) y.source (next y.sequence) false 0 t none none ks (ap (λ (x : core.Packet). next x.sequence) p) turns.nothing rest in
       record {
         same_record = ap₂ {C = List Entry} (λ a b. a ++ b)
             (adds_is (fresh_receiver t140 red) (packet m) y q false forward 0 ∙ ap (core.adds core.fresh) p)
@@ -209,20 +209,20 @@ module _ (S : BlockSender) (ordered : InOrder S) (t140 red : ℕ) (packet : ℕ 
         near = g.near;
       }
 
-  whole : (cs : List Call) (ks : List ℕ) (t : ℕ) → Hands nothing_yet (unheard t) cs ks → Whole (record_of holding_step (unheard t) cs) ks
-  whole [] ks t end = record { same_record = refl; near = tt }
-  whole (c₁ ∷ cs) ks t (refused_call c x rest) =
+  whole : (cs : List Call) (t : ℕ) (ks : List ℕ) → Hands nothing_yet (unheard t) cs ks → Whole (record_of holding_step (unheard t) cs) ks
+  whole [] t ks end = record { same_record = refl; near = tt }
+  whole (c₁ ∷ cs) t ks (refused_call c x rest) =
       let s = unheard t in
       let same = refused_stays s c.clock c.lent c.packet x in
-      let g = whole cs ks t (subst (λ (q : HoldingReceiver). Hands nothing_yet q cs ks) same rest) in
+      let g = whole cs t ks (subst (λ (q : HoldingReceiver). Hands nothing_yet q cs ks) same rest) in
       record {
         same_record = ap₂ {C = List Entry} (λ p q. p ++ q) (refused_adds s c (holding_step s c.clock c.lent c.packet).answer x) (ap (λ (q : HoldingReceiver). record_of holding_step q cs) same ∙ g.same_record);
         near = g.near;
       }
-  whole (c ∷ cs) ks t₀ (accepted t lent k {ks = ks'} ok u w rest) =
-      first_good t₀ t lent k (holding_step (unheard t₀) t lent (arriving S packet k)) cs ks' (first t₀ t lent k ok) (whole cs ks' t) rest
+  whole (c ∷ cs) t₀ ks (accepted t lent k {ks = ks'} ok u w rest) =
+      first_good t₀ t lent k (holding_step (unheard t₀) t lent (arriving S packet k)) cs ks' (first t₀ t lent k ok) (whole cs t ks') rest
 
   pub recorded : (cs : List Call) (ks : List ℕ) → Hands nothing_yet (fresh_holding t140 red) cs ks → record_of holding_step (fresh_holding t140 red) cs ≡ expected_record S ks
   recorded cs ks calls =
-      let g = whole cs ks 0 calls in
+      let g = whole cs 0 ks calls in
       g.same_record ∙ delivered S ordered ks g.near

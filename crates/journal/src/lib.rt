@@ -1,4 +1,6 @@
 // A journal's transcript, from pieces of any size into space of any size.
+#![tactic(auto)]
+
 mod filling;
 mod settling;
 mod state;
@@ -15,7 +17,7 @@ use receiver::Receiver;
 
 // A transcript under way: the journal's reader, the receiver, the counts, how many bytes of the journal may still be
 // read, and what is due.
-#[derive(Drop)]
+#[derive(Clone, Copy)]
 pub struct Transcript {
     pub reader: Reader,
     pub receiver: Receiver,
@@ -25,7 +27,7 @@ pub struct Transcript {
 }
 
 // How many bytes of the journal were used, and how many bytes of the space were filled.
-#[derive(Drop)]
+#[derive(Clone, Copy)]
 pub struct Filled {
     pub transcript: Transcript,
     pub used: usize,

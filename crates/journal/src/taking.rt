@@ -8,7 +8,7 @@ use crate::{Transcript, settling};
 use due::Due;
 
 // How many bytes of the journal were used.
-#[derive(Drop)]
+#[derive(Clone, Copy)]
 pub struct Taken {
     pub transcript: Transcript,
     pub used: usize,

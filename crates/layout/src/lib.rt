@@ -1,4 +1,6 @@
 // Where header, payload and padding of a packet lie (RFC 3550, sections 5.1 and 5.3.1): checks 10 to 14.
+#![tactic(auto)]
+
 ghost use Rattle.std.specs.Prelude.{◌≡◌, cond, ◌≤◌, ltb, length, drop};
 ghost use Rattle.base.specs.Checks.{checked};
 ghost use Rattle.packet_spec.specs.Limits.{shortest, longest};
@@ -10,7 +12,7 @@ ghost use Rattle.layout.specs.Internal.Seen.{layout_seen, refused_layout, passed
 use packet::{Outcome, Packet, Refusal};
 
 // Where the payload starts, and where it ends before the padding. Zeros where the packet is refused.
-#[derive(Drop)]
+#[derive(Clone, Copy)]
 pub struct Layout {
     pub outcome: Outcome,
     pub from: usize,
@@ -18,7 +20,7 @@ pub struct Layout {
 }
 
 // A place in the packet, or none within it.
-#[derive(Drop)]
+#[derive(Clone, Copy)]
 enum Place {
     At(usize),
     Past,

@@ -1,9 +1,11 @@
 // Loss marks (RFC 4103, section 5.3).
+#![tactic(auto)]
+
 ghost use Rattle.std.specs.Prelude.{◌≡◌};
 ghost use Rattle.receiver_spec.specs.Marks.{marks_written, marks_over};
 
 // The mark that stands for one lost block.
-#[derive(Drop)]
+#[derive(Clone, Copy)]
 pub struct LossMark {}
 
 impl LossMark {

@@ -1,5 +1,7 @@
 // Small numbers: the lesser of two, the time between two, the byte of a flag, bytes as wider numbers, and the numbers that bytes make, the highest
 // first.
+#![tactic(auto)]
+
 ghost use Rattle.std.specs.Prelude.{◌≡◌, ◌+◌, ◌-◌, ◌*◌, ◌<◌, min};
 ghost use Rattle.base.specs.Flags.{bit};
 

@@ -1,4 +1,6 @@
 // Judges text that is offered to a sender, and writes it behind what waits.
+#![tactic(auto)]
+
 ghost use Rattle.std.specs.Prelude.{◌≡◌, length, ◌+◌, ◌≤◌};
 ghost use Rattle.packet.specs.Refusal.{is_refused};
 ghost use Rattle.slots.specs.Slots.{texts_size, over_at};
@@ -11,7 +13,7 @@ use slots::{Texts, Waiting};
 use text::Text;
 
 // What an offer comes to: its text joins what waits, so many characters, or it is refused.
-#[derive(Drop)]
+#[derive(Clone, Copy)]
 pub enum Offered {
     Joined(usize),
     Refused(Refusal),
@@ -52,7 +54,7 @@ fn put(texts: &mut [u8], at: usize, text: &[u8])
     requires { at + length text.now ≤ length texts.old }
     ensures { texts.new ≡ over_at at text.now texts.old }
 {
-    bytes::copy(text, &mut texts[at..]);
+    copying::copy(text, &mut texts[at..]);
 }
 
 fn judge_in(

@@ -1,11 +1,13 @@
 // A packet of an RTP text line as the reader hands it over: its fields, the places of its blocks, or its refusal.
+#![tactic(auto)]
+
 ghost use Rattle.std.specs.Prelude.{◌≡◌};
 ghost use Rattle.base.specs.Arrays as Arrays;
 ghost use Rattle.packet.specs.Refusal.{number, is_refused};
 ghost use Rattle.packet.specs.Places.{numbered, refused_answer};
 
 // The refusals of 01 and 02, in the order of their numbers.
-#[derive(Drop)]
+#[derive(Clone, Copy)]
 pub enum Refusal {
     Level,
     Buffering,
@@ -65,7 +67,7 @@ impl Refusal {
     }
 }
 
-#[derive(Drop)]
+#[derive(Clone, Copy)]
 pub enum Outcome {
     Accepted,
     Refused(Refusal),
@@ -83,7 +85,7 @@ impl Outcome {
 }
 
 // The source that a packet must have.
-#[derive(Drop)]
+#[derive(Clone, Copy)]
 pub enum Expected {
     Any,
     Only(u32),
@@ -91,7 +93,7 @@ pub enum Expected {
 
 // What an accepted packet holds: the M bit, 0 or 1, so many older blocks, oldest first, from `first` on, and the primary from
 // `primary` up to `end`. Where an older block ends is told by its header alone, in the packet's bytes.
-#[derive(Drop)]
+#[derive(Clone, Copy)]
 pub struct Packet {
     pub marker: u8,
     pub sequence: u16,
@@ -126,7 +128,7 @@ pub fn part(bytes: &[u8], from: usize, to: usize) -> &[u8]
 }
 
 // The outcome, and the packet; all zeros where it is refused.
-#[derive(Drop)]
+#[derive(Clone, Copy)]
 pub struct Reading {
     pub outcome: Outcome,
     pub packet: Packet,

@@ -1,4 +1,6 @@
 // Where in a record the reading of a journal is, and what follows a record's bytes.
+#![tactic(auto)]
+
 ghost use Rattle.std.specs.Prelude.{◌≡◌, cond, ◌&&◌, ◌+◌, ◌*◌, ◌<◌, ltb, leb};
 ghost use Rattle.packet_spec.specs.Header.{types_bad};
 ghost use Rattle.journal_spec.specs.Contents.{longest_packet, are_zeros};
@@ -7,7 +9,7 @@ ghost use Rattle.parts.specs.Sound.{whole_pieces, sound_part};
 
 // What comes next: a kind byte, the types of an open, the second of them, a packet's length, its second byte, so many
 // bytes of a piece or of a time. Or what reading stopped at: an open, a packet, the end or a break.
-#[derive(Drop)]
+#[derive(Clone, Copy)]
 pub enum Part {
     Kind,
     Types,

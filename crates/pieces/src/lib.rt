@@ -1,4 +1,6 @@
 // Whole pieces of a packet, gathered in a lent space.
+#![tactic(auto)]
+
 ghost use Rattle.std.specs.Prelude.{◌≡◌, ◌≤◌, ◌+◌, ◌/◌, min, length, take, drop};
 ghost use Rattle.std.proofs.Math.Seq.{paste};
 ghost use Rattle.base.specs.Arrays.{over};
@@ -15,8 +17,8 @@ fn copy_piece(input: &[u8], from: usize, space: &mut [u8], at: usize)
 {
     let to = from + Part::PIECE;
     let mut piece = [0u8; Part::PIECE];
-    bytes::copy(&input[from..to], &mut piece);
-    bytes::copy(&piece, &mut space[at..]);
+    copying::copy(&input[from..to], &mut piece);
+    copying::copy(&piece, &mut space[at..]);
 }
 
 // As many of the input's first n bytes as there are and fit. Answers how many.
@@ -26,7 +28,7 @@ pub fn put(n: usize, input: &[u8], space: &mut [u8]) -> usize
 {
     let there = numbers::least(n, input.len());
     let m = numbers::least(there, space.len());
-    bytes::copy(&input[..m], space);
+    copying::copy(&input[..m], space);
     m
 }
 

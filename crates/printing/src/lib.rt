@@ -1,4 +1,6 @@
 // Marks and text, put into the front of a lent space as far as they fit; the bytes behind them stay.
+#![tactic(auto)]
+
 ghost use Rattle.std.specs.Prelude.{◌≡◌, ◌≤◌, length};
 ghost use Rattle.base.specs.Arrays.{over};
 ghost use Rattle.printing.specs.Fitting.{fitting, marks_fitting, text_fitting, due_fitting};
@@ -10,11 +12,11 @@ pub fn put(text: &[u8], space: &mut [u8]) -> usize
     ensures { (result ≡ length (fitting text.now space.old)) × (space.new ≡ over (fitting text.now space.old) space.old) × (result ≤ length space.old) }
 {
     let n = numbers::least(text.len(), space.len());
-    bytes::copy(&text[..n], space)
+    copying::copy(&text[..n], space)
 }
 
 // How many marks and how many bytes of text were put.
-#[derive(Drop)]
+#[derive(Clone, Copy)]
 pub struct Printed {
     pub marks: usize,
     pub text: usize,

@@ -1,4 +1,6 @@
 // How many characters may leave, by the times of the last ones, in a log lent to a sender.
+#![tactic(auto)]
+
 ghost use Rattle.std.specs.Prelude.{◌≡◌, length, ◌+◌, ◌-◌, ◌≤◌, ◌<◌, min};
 ghost use Rattle.sender_spec.specs.Rate.{fits, allowed};
 ghost use Rattle.rate.specs.Circle.{slots_of, log_size, slot_at, times_back, times_in, around, spent_from, spent_in, used_after, pace_after};
@@ -6,7 +8,7 @@ ghost use Rattle.rate.specs.Circle.{slots_of, log_size, slot_at, times_back, tim
 use settings::Settings;
 
 // The lent times, in a circle of slots.
-#[derive(Drop)]
+#[derive(Clone, Copy)]
 pub struct Log {}
 
 impl Log {
@@ -101,7 +103,7 @@ fn used_after(slots: usize, used: usize, more: usize) -> usize
 
 // The next slot, and how many were used.
 #[repr(C)]
-#[derive(Drop)]
+#[derive(Clone, Copy)]
 pub struct Pace {
     pub next: usize,
     pub used: usize,

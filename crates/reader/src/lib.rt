@@ -1,4 +1,6 @@
 // Reading a packet of an RTP text line: the header (RFC 3550), the blocks (RFC 2198), the text (RFC 4103, RFC 3629).
+#![tactic(auto)]
+
 ghost use Rattle.std.specs.Prelude.{◌≡◌};
 ghost use Rattle.packet_spec.specs.Header.{Any};
 ghost use Rattle.packet.specs.Places.{expected_source, numbered, read_of};

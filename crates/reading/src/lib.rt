@@ -1,4 +1,6 @@
 // How far a journal is read, and what follows bytes that belong to no piece.
+#![tactic(auto)]
+
 ghost use Rattle.std.specs.Prelude.{◌≡◌, cond, min};
 ghost use Rattle.parts.specs.Bytes.{going};
 ghost use Rattle.reading.specs.Reading.{start_reader, outside, with, sound, reader_ready};
@@ -7,7 +9,7 @@ ghost use Rattle.reading.specs.Internal.Bytes.{begun_by, kind_by, byte_of, time_
 use parts::Part;
 
 // The first `at` bytes of the lent buffer are those of the pieces of the packet begun last, of `size` bytes.
-#[derive(Drop)]
+#[derive(Clone, Copy)]
 pub struct Reader {
     pub opened: bool,
     pub part: Part,
@@ -16,7 +18,7 @@ pub struct Reader {
 }
 
 // How many bytes of the journal were used.
-#[derive(Drop)]
+#[derive(Clone, Copy)]
 pub struct Done {
     pub reader: Reader,
     pub used: usize,

@@ -1,4 +1,6 @@
 // The receiver of a text line: its state, its opening and its step; and the parts of a step, for a receiver that holds packets.
+#![tactic(auto)]
+
 mod accepting;
 
 ghost use Rattle.std.specs.Prelude.{◌≡◌, if◌then◌else◌};
@@ -17,7 +19,7 @@ use packet::{Expected, Outcome, Packet, Refusal};
 // The payload types; the source, once the first packet was accepted; the sequence number that is expected next; the number
 // that a jump kept, 0 where none is.
 #[repr(C)]
-#[derive(Drop)]
+#[derive(Clone, Copy)]
 pub struct Receiver {
     pub t140: u8,
     pub red: u8,
@@ -28,7 +30,7 @@ pub struct Receiver {
     pub kept: u16,
 }
 
-#[derive(Drop)]
+#[derive(Clone, Copy)]
 pub struct Opened {
     pub outcome: Outcome,
     pub receiver: Receiver,
@@ -37,7 +39,7 @@ pub struct Opened {
 // What a step answers. A late packet and a jump give nothing. A forward packet and a break give their last `given` blocks,
 // the primary among them; these lie from `from` up to `to` in the packet, which has `older` older blocks. A break gives all
 // of them, and its loss and distance are 0.
-#[derive(Drop)]
+#[derive(Clone, Copy)]
 pub enum Answer {
     Refused(Refusal),
     Late {
@@ -63,14 +65,14 @@ pub enum Answer {
 }
 
 // The receiver for the next packet, and the answer.
-#[derive(Drop)]
+#[derive(Clone, Copy)]
 pub struct Advanced {
     pub receiver: Receiver,
     pub answer: Answer,
 }
 
 // The same with the text: the part of the caller's packet that the answer gives.
-#[derive(Drop)]
+#[derive(Clone, Copy)]
 pub struct Stepped<'a> {
     pub receiver: Receiver,
     pub answer: Answer,

@@ -1,4 +1,6 @@
 // A journal's records, read from parts of it of any length; the packet is gathered in a lent buffer.
+#![tactic(auto)]
+
 mod steps;
 
 ghost use Rattle.std.specs.Prelude.{◌≡◌};

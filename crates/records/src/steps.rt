@@ -19,7 +19,7 @@ fn pieces_end(size: usize) -> usize
 }
 
 // Where the packet is behind whole pieces, how many bytes of them are gathered, and how many of the input were used.
-#[derive(Drop)]
+#[derive(Clone, Copy)]
 struct Gathered {
     part: Part,
     at: usize,

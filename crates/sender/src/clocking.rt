@@ -14,7 +14,7 @@ use writer::{Answer, Draft};
 
 // What a call that is ready comes to: the packet's length, 0 where there is nothing to send, how many bytes and characters it takes
 // of what waits, and the pace that it leaves.
-#[derive(Drop)]
+#[derive(Clone, Copy)]
 pub struct Sending {
     pub size: usize,
     pub len: usize,

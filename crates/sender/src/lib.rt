@@ -1,6 +1,8 @@
 // The sender of an RTP text line (RFC 4103, section 5): text waits in a room and leaves in packets that repeat the last blocks.
 // The sender is a small record; the texts, what waits and the blocks kept, lie in bytes that the caller lends, and the times of the
 // last characters in a log that is lent too.
+#![tactic(auto)]
+
 mod clocking;
 mod offering;
 mod opening;
@@ -19,7 +21,7 @@ use writer::Answer;
 // A sender: its settings, the latest accepted clock, what waits, the last blocks sent, where the times of the last characters lie,
 // and how far it has come. The blocks' texts lie in the slots before that of what waits, in a circle.
 #[repr(C)]
-#[derive(Drop)]
+#[derive(Clone, Copy)]
 pub struct Sender {
     pub settings: Settings,
     pub clock: u64,
@@ -30,7 +32,7 @@ pub struct Sender {
 }
 
 // A refused opening's sender is all zeros.
-#[derive(Drop)]
+#[derive(Clone, Copy)]
 pub struct Opened {
     pub outcome: Outcome,
     pub sender: Sender,

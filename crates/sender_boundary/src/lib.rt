@@ -1,4 +1,6 @@
 // What the exported calls of the sender answer, in the numbers and records of their callers.
+#![tactic(auto)]
+
 ghost use Rattle.std.specs.Prelude.{◌≡◌, pos, neg_ℤ, replicate};
 ghost use Rattle.slots.specs.Slots.{texts_size};
 ghost use Rattle.sender.specs.Opening.{Opens};

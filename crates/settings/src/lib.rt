@@ -1,4 +1,6 @@
 // What a sender is opened with, and how far it has come: the checks of the settings, and what a packet takes from both.
+#![tactic(auto)]
+
 ghost use Rattle.std.specs.Prelude.{◌≡◌, ◌+◌, ◌%◌, if◌then◌else◌, nat_lt};
 ghost use Rattle.base.specs.Flags.{is_set};
 ghost use Rattle.packet.specs.Refusal.{outcome_number};
@@ -11,7 +13,7 @@ use packet::{Outcome, Packet, Refusal};
 // What a sender is opened with: the number of repeats, the buffering time in ms, the rate in characters per second, the two
 // payload types, the first sequence number, the first timestamp and the source.
 #[repr(C)]
-#[derive(Drop)]
+#[derive(Clone, Copy)]
 pub struct Settings {
     pub level: usize,
     pub buffering: u64,
@@ -37,7 +39,7 @@ impl Settings {
 
 // Whether a packet was sent, when the last one was, when the last one with text was, and the next sequence number.
 #[repr(C)]
-#[derive(Drop)]
+#[derive(Clone, Copy)]
 pub struct Progress {
     // 0 until a packet was sent; every other value counts as 1.
     pub sent: u8,
@@ -47,7 +49,7 @@ pub struct Progress {
 }
 
 // What a clock call comes to, before the texts are looked at.
-#[derive(Drop)]
+#[derive(Clone, Copy)]
 pub enum Judged {
     Refused(Refusal),
     // No packet is due yet.

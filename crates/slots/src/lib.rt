@@ -1,4 +1,6 @@
 // The slots of the texts lent to a sender, in a circle: what waits lies in one, the blocks kept in those before it.
+#![tactic(auto)]
+
 ghost use Rattle.std.specs.Prelude.{◌≡◌, ◌∷◌, cond, ltb, length, take, drop, ◌+◌, ◌-◌, ◌≤◌, ◌<◌, min};
 ghost use Rattle.packet_spec.specs.Limits.{level};
 ghost use Rattle.sender_spec.specs.Limits.{room_size};
@@ -10,7 +12,7 @@ use numbers::least;
 use packet::Packet;
 
 // The lent texts of a sender: a slot for what waits, and one for each block kept.
-#[derive(Drop)]
+#[derive(Clone, Copy)]
 pub struct Texts {}
 
 impl Texts {
@@ -50,8 +52,8 @@ fn copy_within(texts: &mut [u8], from: usize, end: usize, to: usize)
 {
     let size = end - from;
     let mut rest = [0u8; Texts::ROOM];
-    bytes::copy(&texts[from..end], &mut rest);
-    bytes::copy(&rest[..size], &mut texts[to..]);
+    copying::copy(&texts[from..end], &mut rest);
+    copying::copy(&rest[..size], &mut texts[to..]);
 }
 
 fn keep_in(texts: &mut [u8], room: usize, len: usize, taken: usize)
@@ -76,7 +78,7 @@ pub fn keep_rest(texts: &mut [u8; Texts::SIZE], room: usize, len: usize, taken: 
 
 // What waits: its slot, its length, its characters, and when its first byte was offered.
 #[repr(C)]
-#[derive(Drop)]
+#[derive(Clone, Copy)]
 pub struct Waiting {
     pub room: usize,
     pub len: usize,
@@ -138,7 +140,7 @@ fn left(number: usize, taken: usize) -> usize
 
 // The blocks kept, newest first, by their lengths and times; the first `count` count.
 #[repr(C)]
-#[derive(Drop)]
+#[derive(Clone, Copy)]
 pub struct Kept {
     pub lens: [usize; Packet::LEVEL],
     pub ats: [u64; Packet::LEVEL],
@@ -160,7 +162,7 @@ impl Kept {
     }
 }
 
-#[derive(Drop)]
+#[derive(Clone, Copy)]
 struct Shifted {
     lens: [usize; Packet::LEVEL],
     ats: [u64; Packet::LEVEL],

@@ -1,4 +1,6 @@
 // The functions that C and Rust callers link. What is lent to a call that is refused stays as it was; only an opening writes.
+#![tactic(auto)]
+
 mod holding_calls;
 mod receiving;
 mod sending;

@@ -1,4 +1,6 @@
 // UTF-8 (RFC 3629, section 4): a byte at a time, ASCII many at a time.
+#![tactic(auto)]
+
 mod ascii;
 
 ghost use Rattle.std.specs.Prelude.{◌≡◌, [], length, get_or, take, ◌<◌, ◌≤◌};
@@ -9,7 +11,7 @@ ghost use Rattle.text.specs.Owed.{owes, walked};
 ghost use Rattle.text.specs.Answer.{text_answered};
 
 // What a letter that has begun still owes: so many tails, and the range of the next one.
-#[derive(Drop)]
+#[derive(Clone, Copy)]
 pub struct Owed {
     pub tails: u8,
     pub low: u8,
@@ -17,7 +19,7 @@ pub struct Owed {
 }
 
 // What a byte leads to.
-#[derive(Drop)]
+#[derive(Clone, Copy)]
 pub enum Walked {
     Next(Owed),
     Bad,
@@ -91,7 +93,7 @@ fn begun(tails: u8, low: u8, high: u8) -> Walked
 
 // What a run of bytes is as text: so many characters, or the place of the first byte at which it can no longer be
 // well formed (its end, where it stops inside a letter).
-#[derive(Drop)]
+#[derive(Clone, Copy)]
 pub enum Text {
     Characters(usize),
     Stops(usize),

@@ -84,7 +84,7 @@ AllProper (r ∷ rs) = Proper r.rest × AllProper rs
 all_proper : AllProper rows
 all_proper = omega arith
 
-row_proper : {rs : List Row} {r : Row} → AllProper rs → Memᴰ r rs → Proper r.rest
+row_proper : {r : Row} {rs : List Row} → AllProper rs → Memᴰ r rs → Proper r.rest
 row_proper p (Memᴰ.head e) = rw e p.0
 row_proper p (Memᴰ.tail m) = row_proper p.1 m
 

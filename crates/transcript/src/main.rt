@@ -1,11 +1,13 @@
 // Reads a journal on standard input and writes its transcript to standard output.
+#![tactic(auto)]
+
 ghost use Rattle.std.specs.Prelude.{◌≡◌, true, ◌+◌, ◌<◌, ◌≤◌};
 
 use journal::Transcript;
 use libc::{STDERR_FILENO, STDIN_FILENO, STDOUT_FILENO};
 
 // How many bytes of the input were used, and whether every write went well.
-#[derive(Drop)]
+#[derive(Clone, Copy)]
 struct Poured {
     transcript: Transcript,
     used: usize,

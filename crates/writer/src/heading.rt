@@ -10,7 +10,7 @@ use packet::Packet;
 
 // What the headers are written from: the header's values, and the tags of the blocks, newest first: age and bytes of text, in one
 // number.
-#[derive(Drop)]
+#[derive(Clone, Copy)]
 pub struct Front {
     pub level: usize,
     pub t140: u8,

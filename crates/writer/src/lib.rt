@@ -1,5 +1,7 @@
 // Writes a packet from a draft and the lent texts: each part fills the front of the space that it is lent, and the rest of the
 // space stays.
+#![tactic(auto)]
+
 mod heading;
 mod writing;
 
@@ -16,7 +18,7 @@ use slots::Texts;
 
 // What a packet is written from: the header's values; the blocks kept, newest first, by their lengths and times, of which the
 // first `count` count; the slot of what waits, and its length. The blocks' texts lie in the slots before it, in a circle.
-#[derive(Drop)]
+#[derive(Clone, Copy)]
 pub struct Draft {
     pub level: usize,
     pub t140: u8,
@@ -34,7 +36,7 @@ pub struct Draft {
 }
 
 // What the clock call answers.
-#[derive(Drop)]
+#[derive(Clone, Copy)]
 pub enum Answer {
     Refused(Refusal),
     Quiet,

@@ -40,7 +40,7 @@ fn put_text(to: &mut [u8], texts: &[u8], room: usize, back: usize, len: usize) -
     }
     let size = numbers::least(len, Texts::ROOM);
     let end = from + size;
-    bytes::copy(&texts[from..end], to);
+    copying::copy(&texts[from..end], to);
     size
 }
 

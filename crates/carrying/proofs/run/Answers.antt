@@ -1,0 +1,40 @@
+use Prim.Native.Nat.{ℕ, ◌+◌, ◌*◌}
+use mathlib.Core.Path.{◌≡◌, ◌∙◌, refl, ap, sym}
+use mathlib.Core.List.{List}
+use native.Mathlib.Omega.{arith}
+use native.Mathlib.Numerals.{add-one}
+use lib.ListN.{length, set}
+use borrow.Author.Rules.{rules}
+use borrow.Author.Tests.{not-false}
+use Rattle.packet_spec.specs.Limits.{level}
+use Rattle.carrying.proofs.YoungRun.{run_more}
+use Rattle.carrying.proofs.Tags.{tagged_more}
+use Rattle.carrying.proofs.TextTotal.{total_more}
+use Rattle.carrying.proofs.run.Goals as goal
+
+pub loop-count-init : goal.loop-count-init
+unfolding level
+loop-count-init c = (omega arith, omega arith, omega arith, omega arith, omega arith, refl)
+
+pub loop-count-smaller : goal.loop-count-smaller
+unfolding level
+loop-count-smaller c = omega arith
+
+pub loop-count-preserved : goal.loop-count-preserved
+unfolding level
+loop-count-preserved c =
+    let long : (length c.args.lens ≡ level) × (length c.args.ats ≡ level) = (search rules, search rules) in
+    let st = c in
+    let a = st.args in
+    let l = c.loop-count in
+    let q = c.is_young in
+    let n = c.least-size in (
+      omega arith,
+      omega arith,
+      rw add-one
+          (omega (arith, l.invariant.2, run_more a.clock a.t2 a.most l.count (omega arith) (omega (arith, long st)) (sym q.ensures ∙ not-false q.result c.if-not-is_young.false-raw))),
+      rw add-one (omega (arith, l.invariant.3, n.ensures, total_more a.t1 l.count (omega (arith, long st)))),
+      omega (arith, n.ensures),
+      rw add-one (ap (λ (x : List ℕ). set x l.count ((16384 + c.passed-age.result) * 256 + n.result)) l.invariant.5
+          ∙ tagged_more a.clock a.t1 a.t2 (long st).0 (long st).1 l.count (omega arith) ((16384 + c.passed-age.result) * 256 + n.result) (λ i. (16384 + c.passed-age.ensures i) * 256 + n.ensures i)),
+    )
