@@ -12,7 +12,7 @@ pub returns-then-bytes-at : goal.returns-then-bytes-at
 returns-then-bytes-at c =
     let l = c.loop-at in
     let b = c.args.bytes.now in
-    let o = c.in-Next.owed-1 in
+    let o = c.in-Next.owed in
     omega (arith, front_cut_at l.left l.at b c.loop-at-test.true (omega arith) (sym c.lead.ensures ∙ ap walked c.in-Next.is) o.tails (owes_tails o) (omega arith))
 
 pub returns-in-Bad : goal.returns-in-Bad
@@ -25,7 +25,7 @@ pub loop-at-preserved : goal.loop-at-preserved
 loop-at-preserved c =
     let l = c.loop-at in
     let b = c.args.bytes.now in
-    let o = c.in-Next.owed-1 in
+    let o = c.in-Next.owed in
     omega (arith, front_on_at l.left l.at b c.loop-at-test.true (omega arith) (sym c.lead.ensures ∙ ap walked c.in-Next.is) o.tails (owes_tails o) (omega arith))
 
 pub returns : goal.returns
