@@ -17,5 +17,5 @@ returns c =
     let p = a.bytes.now in
     rw (le-ltb _ _ c.if-k-gt-LEVEL.false)
     (c.part.ensures
-    ∙ ap (λ (k : ℕ). part k c.start_of-to.result p) c.start_of_lem.ensures
+    ∙ ap (λ (k : ℕ). part k c.start_of-to.result p) c.start_of-from.ensures
     ∙ ap (λ (k : ℕ). part (start_of p a.packet a.k) k p) c.start_of-to.ensures)

@@ -1,8 +1,7 @@
-use Prim.Native.Nat.{◌+◌, ◌<◌}
+use Prim.Native.Nat.{ℕ, ◌+◌, ◌<◌, ◌≤◌}
 use mathlib.Core.Path.{◌≡◌, ◌∙◌, ap, sym}
 use mathlib.Core.List.{List}
 use mathlib.Core.Bool.{Bool, false}
-use mathlib.Core.Logic.{⊎_elim}
 use mathlib.Core.Option.{none, some}
 use native.Mathlib.Omega.{arith}
 use lib.ListN.{length, get_or, drop}
@@ -20,13 +19,7 @@ use Rattle.text_spec.proofs.Walks.{goes_on, part_on, part_stops}
 use Rattle.text.proofs.Owes.{owes_lead, owes_ascii}
 use Rattle.blocks.proofs.BlockWalk.{Here, older_here, primary_here}
 use Rattle.blocks.proofs.judging.check.Goals as goal
-
--- whether all blocks are text, and whether the block at hand is
-all_text_lem : goal.At-loop-i → Bool
-all_text_lem c = let a = c.args in are_text (heads_in a.count (drop a.from a.packet.now)) (slice a.first a.end a.packet.now)
-
-text-here : goal.At-loop-i → Bool
-text-here c = is_text (slice c.blocks-2.at c.if-k-count.to c.args.packet.now)
+use Rattle.blocks.proofs.judging.check.Goals.{then-k-count, else-k-count, then-tails-eq0+then-byte-ge128+in-Next, then-tails-eq0+else-byte-ge128, else-tails-eq0+in-Next-step}
 
 pub loop-i-init : goal.loop-i-init
 loop-i-init c =
@@ -37,10 +30,10 @@ loop-i-init c =
     let hs = heads_in a.count (drop a.from p) in
     let n : length hs ≡ a.count = heads_length a.count (drop a.from p) in
     let h : Here p hs a.count a.end l.k l.at to =
-    ⊎_elim
-    (λ w. older_here p hs a.count a.end l.k l.at to n l.invariant.2 w.0.taken (w.3 ∙ ap (λ (h : Head). l.at + h.len) (w.1.ensures.0 ∙ head_at_is p a.from a.count l.k w.0.taken (omega arith))))
-    (λ w. primary_here p hs a.count a.end l.k l.at to n l.invariant.2 l.invariant.0 w.0.left w.1)
-    c.if-k-count.branch in (
+    elim c.if-k-count.branch [
+      then-k-count w ↦ older_here p hs a.count a.end l.k l.at to n l.invariant.2 w.if-k-count.true (w.to-is ∙ ap (λ (h : Head). l.at + h.len) (w.head_at-head.ensures.0 ∙ head_at_is p a.from a.count l.k w.if-k-count.true (omega arith)))
+      | else-k-count w ↦ primary_here p hs a.count a.end l.k l.at to n l.invariant.2 l.invariant.0 w.if-k-count.false w.to-is
+    ] in (
       h.ahead,
       l.invariant.1,
       h,
@@ -54,31 +47,28 @@ loop-i-preserved c =
     let p = c.args.packet.now in
     let b = get_or p l.i 0 in
     let f : owed_after (owes l.owed) b ≡ some (owes c.if-tails-eq0.owed) =
-    ⊎_elim
-    (λ w. owes_lead l.owed b w.0.taken (sym w.2.ensures ∙ ap walked (w.4.given.1 ∙ ap Next (sym w.6))))
-    (⊎_elim
-    (λ w. owes_ascii l.owed b w.0.taken w.1.left ∙ ap (λ (o : Owed). some (owes o)) (sym w.2))
-    (λ w. sym w.1.ensures ∙ ap walked (w.3.given.1 ∙ ap Next (sym w.5))))
-    c.if-tails-eq0.branch in
+    elim c.if-tails-eq0.branch [
+      then-tails-eq0+then-byte-ge128+in-Next w ↦ owes_lead l.owed b w.if-tails-eq0.true (sym w.lead.ensures ∙ ap walked (w.in-Next.is ∙ ap Next (sym w.owed-is)))
+      | then-tails-eq0+else-byte-ge128 w ↦ owes_ascii l.owed b w.if-tails-eq0.true w.if-byte-ge128.false ∙ ap (λ (o : Owed). some (owes o)) (sym w.owed-is)
+      | else-tails-eq0+in-Next-step w ↦ sym w.step.ensures ∙ ap walked (w.in-Next-step.is ∙ ap Next (sym w.owed-is))
+    ] in
     (search rules, l.invariant.1, l.invariant.2, l.invariant.3 ∙ part_on (owes l.owed) p l.i to c.loop-i-test.true (search rules) f)
 
+-- a byte at which the block at hand stops being text
+stops_here : (p : List ℕ) (i at to : ℕ) (owed : List Range) (all : Bool) → i < to → to ≤ length p → is_text (slice at to p) ≡ goes_on owed (slice i to p)
+    → (is_text (slice at to p) ≡ false → all ≡ false) → owed_after owed (get_or p i 0) ≡ none → all ≡ false
+stops_here p i at to owed all h k g f e = f (g ∙ part_stops owed p i to h k e)
+
 pub returns-in-Bad : goal.returns-in-Bad
-unfolding all_text_lem text-here
 returns-in-Bad c =
-    let bad-here : text-here c ≡ false → all_text_lem c ≡ false = λ e. c.blocks-2.invariant.3 ∙ c.loop-i.invariant.2.text ∙ rw e in
-    let stops-here : c.loop-i.i < c.if-k-count.to
-    → owed_after (owes c.loop-i.owed) (get_or c.args.packet.now c.loop-i.i 0) ≡ none → all_text_lem c ≡ false = λ h e. bad-here
-    (c.loop-i.invariant.3 ∙ part_stops (owes c.loop-i.owed) c.args.packet.now c.loop-i.i c.if-k-count.to h (search rules) e) in
-    let d = c in
-    rw (stops-here c.loop-i-test.true
-    (owes_lead d.loop-i.owed _ c.if-tails-eq0.true (sym c.lead.ensures ∙ ap walked c.in-Bad.is)))
+    let l = c.loop-i in
+    rw (stops_here c.args.packet.now l.i c.blocks-2.at c.if-k-count.to (owes l.owed) _ c.loop-i-test.true (search rules) l.invariant.3
+    (λ e. c.blocks-2.invariant.3 ∙ l.invariant.2.text ∙ rw e)
+    (owes_lead l.owed _ c.if-tails-eq0.true (sym c.lead.ensures ∙ ap walked c.in-Bad.is)))
 
 pub returns-in-Bad-step : goal.returns-in-Bad-step
-unfolding all_text_lem text-here
 returns-in-Bad-step c =
-    let bad-here : text-here c ≡ false → all_text_lem c ≡ false = λ e. c.blocks-2.invariant.3 ∙ c.loop-i.invariant.2.text ∙ rw e in
-    let stops-here : c.loop-i.i < c.if-k-count.to
-    → owed_after (owes c.loop-i.owed) (get_or c.args.packet.now c.loop-i.i 0) ≡ none → all_text_lem c ≡ false = λ h e. bad-here
-    (c.loop-i.invariant.3 ∙ part_stops (owes c.loop-i.owed) c.args.packet.now c.loop-i.i c.if-k-count.to h (search rules) e) in
-    rw (stops-here c.loop-i-test.true
+    let l = c.loop-i in
+    rw (stops_here c.args.packet.now l.i c.blocks-2.at c.if-k-count.to (owes l.owed) _ c.loop-i-test.true (search rules) l.invariant.3
+    (λ e. c.blocks-2.invariant.3 ∙ l.invariant.2.text ∙ rw e)
     (sym c.step.ensures ∙ ap walked c.in-Bad-step.is))
