@@ -10,7 +10,7 @@ ghost use Rattle.packet.specs.Refusal.{outcome_number};
 ghost use Rattle.packet.specs.Places.{expected_source};
 ghost use Rattle.receiver_spec.specs.Step.{step_of};
 ghost use Rattle.receiver.specs.View.{receiver_of, step_answer, advanced};
-ghost use Rattle.boundary.specs.Answers.{expectedOf, textAnswer};
+ghost use Rattle.boundary.specs.Answers.{expected_of, text_answer};
 ghost use Rattle.boundary.specs.Receiving.{held_in, lent_record, step_number, nothing_given, step_record};
 ghost use Rattle.receiver_spec.specs.Kinds.{was_refused, was_late};
 
@@ -30,7 +30,7 @@ pub fn number_of(outcome: Outcome) -> u8
 
 // The source that a packet must have: any where `expects` is 0, else `source`.
 pub fn expected_of(expects: u8, source: u32) -> Expected
-    ensures { expected_source result ≡ expectedOf expects source }
+    ensures { expected_source result ≡ expected_of expects source }
 {
     if expects == 0 {
         return Expected::Any;
@@ -49,7 +49,7 @@ pub struct TextAnswer {
 }
 
 pub fn text(bytes: &[u8]) -> TextAnswer
-    ensures { result ≡ textAnswer (text_of bytes.now) }
+    ensures { result ≡ text_answer (text_of bytes.now) }
 {
     match text::text_of(bytes) {
         Text::Characters(n) => TextAnswer {

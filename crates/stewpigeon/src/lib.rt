@@ -9,7 +9,7 @@ ghost use Rattle.std.specs.Prelude.{◌≡◌};
 ghost use Rattle.text_spec.specs.Utf8.{text_of};
 ghost use Rattle.packet_spec.specs.Limits.{level};
 ghost use Rattle.packet_spec.specs.Reading.{reading};
-ghost use Rattle.boundary.specs.Answers.{expectedOf, textAnswer};
+ghost use Rattle.boundary.specs.Answers.{expected_of, text_answer};
 ghost use Rattle.boundary.specs.Packets.{read_number, packet_behind};
 
 use boundary::packets::PacketRecord;
@@ -26,7 +26,7 @@ pub extern "C" fn stewpigeon_read(
     packet: &[u8],
     answer: &mut PacketRecord,
 ) -> u8
-    ensures { (result ≡ read_number (reading level (expectedOf expects source) t140 red packet.now)) × (answer.new ≡ packet_behind packet.now (reading level (expectedOf expects source) t140 red packet.now) answer.old) }
+    ensures { (result ≡ read_number (reading level (expected_of expects source) t140 red packet.now)) × (answer.new ≡ packet_behind packet.now (reading level (expected_of expects source) t140 red packet.now) answer.old) }
 {
     let expected = boundary::expected_of(expects, source);
     let reading = reader::read_from(expected, t140, red, packet);
@@ -42,7 +42,7 @@ pub extern "C" fn stewpigeon_read(
 // Tells in `answer` what the bytes are as UTF-8.
 #[unsafe(no_mangle)]
 pub extern "C" fn stewpigeon_text(bytes: &[u8], answer: &mut TextAnswer)
-    ensures { answer.new ≡ textAnswer (text_of bytes.now) }
+    ensures { answer.new ≡ text_answer (text_of bytes.now) }
 {
     *answer = boundary::text(bytes);
 }

@@ -18,4 +18,4 @@ returns-in-Accepted c =
     let q = c in
     let a = q.args in
     let h = accepted_is (receiver_of a.holder.receiver) a.packet.now q.read-reading.result q.read-reading.ensures c.in-Accepted.is in
-    c.arrive_alone.ensures h.0 h.1 ∙ sym (ap (arrives_read (holding_of a.holder) a.clock a.packet.now none) h.1.read-reading)
+    c.arrive_alone.ensures h.0 h.1 ∙ sym (ap (arrives_read (holding_of a.holder) a.clock a.packet.now none) h.1.read)
