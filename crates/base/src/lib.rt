@@ -1,3 +1,2 @@
 // General definitions and laws: checks in their order, lists as arrays and as lent space. No function.
 #![tactic(auto)]
-

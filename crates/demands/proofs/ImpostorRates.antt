@@ -1,6 +1,6 @@
 -- Senders that do not keep the rate, each with the field of `Rate` that it fails, by computing one list of calls.
 use Prim.Native.Nat.{ℕ, ◌+◌, ◌-◌, ◌≤◌}
-use mathlib.Core.Path.{◌≡◌, refl}
+use mathlib.Core.Path.{refl}
 use mathlib.Core.List.{List, [], ◌∷◌, ◌++◌}
 use mathlib.Core.Bool.{cond}
 use native.Mathlib.Omega.{arith}

@@ -8,7 +8,7 @@ use lib.ListN.{length, take, drop, replicate}
 use lib.Seq.{take-nil}
 use borrow.Author.Tests.{le-leb}
 use Rattle.base.specs.Every.{Every}
-use Rattle.text_spec.specs.Front.{counted, characters, front}
+use Rattle.text_spec.specs.Front.{counted, front}
 use Rattle.sender_spec.specs.State.{Settings, Progress, Sender, fresh_sender}
 use Rattle.sender_spec.specs.Rate.{window, limit_of, allowed}
 use Rattle.sender_spec.specs.Packets.{going, taken, ready_at, content_of, packet_bytes, after_packet}

@@ -1,3 +1,2 @@
 // A crate of theorems: the buyer's demands, over the definitions that the contracts cite.
 #![tactic(auto)]
-

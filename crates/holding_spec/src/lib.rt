@@ -1,3 +1,2 @@
 // Definitions and theorems: the receiver that holds a packet. No function.
 #![tactic(auto)]
-

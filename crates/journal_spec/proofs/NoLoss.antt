@@ -1,5 +1,5 @@
 -- The transcript of a whole journal whose packets each add one block to the record: the blocks, and no loss.
-use Prim.Native.Nat.{ℕ, zero, suc, ◌+◌}
+use Prim.Native.Nat.{ℕ, zero, suc}
 use mathlib.Core.Path.{◌≡◌, ◌∙◌, refl, ap, ap₂}
 use mathlib.Core.List.{List, [], ◌∷◌, ◌++◌, head-eq_of_cons-eq}
 use mathlib.Core.Bool.{Bool, true, cond}

@@ -13,7 +13,7 @@ use Rattle.base.specs.Arrays.{part}
 use Rattle.base.specs.Checks.{Check, checked}
 use Rattle.packet_spec.specs.Limits.{longest}
 use Rattle.packet_spec.specs.Header.{Any, Only, Expected, header_end, payload_end, payload, source_of}
-use Rattle.packet_spec.specs.Redundancy.{Head, Block, falling, offsets, older_of, primary_of, blocks_of, joined, all_text}
+use Rattle.packet_spec.specs.Redundancy.{Head, Block, falling, offsets, older_of, blocks_of, joined, all_text}
 use Rattle.packet_spec.specs.Reading.{Content, Read, holds, refused, header_checks, heads_of, content, blocks_read, reading, blocks, starts_at, block_at}
 use Rattle.base.proofs.PartOf.{part_slice}
 use Rattle.base.proofs.Slices.{take_slice, drop_slice, slice_end}

@@ -4,14 +4,14 @@ use mathlib.Core.Path.{◌≡◌, ◌∙◌, refl, ap, sym, subst}
 use mathlib.Core.List.{List, [], ◌∷◌}
 use native.Mathlib.Omega.{arith}
 use lib.ListN.{length, take, drop, length-drop, length-append}
-use lib.Seq.{slice, length-slice, length-take-le}
+use lib.Seq.{length-slice, length-take-le}
 use Rattle.packet_spec.specs.Header.{Expected, header_end, payload_end, payload}
-use Rattle.packet_spec.specs.Redundancy.{Head, Block, total, older_of, primary_of, blocks_of, joined}
+use Rattle.packet_spec.specs.Redundancy.{Head, total, older_of, primary_of, blocks_of, joined}
 use Rattle.packet_spec.specs.Internal.Heads.{heads_in}
 use Rattle.packet_spec.specs.Reading.{Content, holds, content, reading, blocks, starts_at}
 use Rattle.packet_spec.proofs.Payload.{payload_inside}
 use Rattle.packet_spec.proofs.HeadsIn.{heads_within_lem}
-use Rattle.packet_spec.proofs.Accepted.{Accepted, accepted}
+use Rattle.packet_spec.proofs.Accepted.{accepted}
 use Rattle.packet_spec.proofs.BlockRuns.{reach, cut_joined}
 use Rattle.packet_spec.proofs.BlocksLie.{older_length}
 

@@ -1,5 +1,5 @@
 -- The bytes of a packet that is written here: version 2, with no padding, extension or source list (01, "The sender").
-use Rattle.std.specs.Prelude.{ℕ, ◌+◌, ◌*◌, ◌/◌, ◌%◌, ◌≤◌, ◌≡◌, List, [], ◌∷◌, ◌++◌, Bool, true, false, length}
+use Rattle.std.specs.Prelude.{ℕ, ◌+◌, ◌*◌, ◌/◌, ◌%◌, ◌≡◌, List, [], ◌∷◌, ◌++◌, Bool, true, false, length}
 use Rattle.packet_spec.specs.Header.{Expected, Any, Only}
 use Rattle.packet_spec.specs.Redundancy.{Block, blocks_of, joined}
 use Rattle.packet_spec.specs.Reading.{Content}

@@ -1,3 +1,2 @@
 // Definitions and theorems: the receiver of a text line. No function.
 #![tactic(auto)]
-
