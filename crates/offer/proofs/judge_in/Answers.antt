@@ -43,7 +43,7 @@ returns-then-text-eq0 c =
     let a = c.args in
     let r = c.settings_outcome-outcome in
     let state = sender_where a.settings a.latest (waiting_in a.texts.now a.waiting.room a.waiting.len) in
-    record { number = number_by (offer_7 state a.clock a.text.now (outcome_number r.result) r.ensures (ap outcome_number c.in-Accepted.is) c.if-clock-latest.false c.if-text-eq0.true); counted = refl; bytes = refl; whole = size }
+    record { number = number_by (offer_7 state a.clock a.text.now (outcome_number r.result) r.ensures (ap outcome_number c.in-Accepted.is) (omega arith) c.if-text-eq0.true); counted = refl; bytes = refl; whole = size }
 
 pub returns-then-len-text-gt-ROOM : goal.returns-then-len-text-gt-ROOM
 returns-then-len-text-gt-ROOM c =
