@@ -5,4 +5,3 @@ pub mod Joined
 pub mod Drafted
 pub mod ClockAnswered
 pub mod RecordLeft
-pub mod PlainCalls

@@ -7,7 +7,7 @@ use native.Mathlib.Omega.{arith}
 use lib.Dec.{ltb, eqb}
 use lib.ListN.{length, take, length-take, length-append}
 use lib.Seq.{take-take}
-use borrow.Author.Tests.{eq-eqb, ne_eqb, eqb-true}
+use borrow.Author.Tests.{eqb-true}
 use Rattle.writer.specs.declared.Draft.{Draft}
 use Rattle.packet_spec.specs.Limits.{level}
 use Rattle.packet_spec.specs.Encoding.{marker_bit, fixed_header, heads_bytes}

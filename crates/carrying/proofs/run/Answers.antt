@@ -1,11 +1,10 @@
 use Prim.Native.Nat.{ℕ, ◌+◌, ◌*◌}
-use mathlib.Core.Path.{◌≡◌, ◌∙◌, refl, ap, sym}
+use mathlib.Core.Path.{◌≡◌, ◌∙◌, refl, ap}
 use mathlib.Core.List.{List}
 use native.Mathlib.Omega.{arith}
 use native.Mathlib.Numerals.{add-one}
 use lib.ListN.{length, set}
 use borrow.Author.Rules.{rules}
-use borrow.Author.Tests.{not-false}
 use Rattle.packet_spec.specs.Limits.{level}
 use Rattle.carrying.proofs.YoungRun.{run_more}
 use Rattle.carrying.proofs.Tags.{tagged_more}
@@ -32,9 +31,9 @@ loop-count-preserved c =
       omega arith,
       omega arith,
       rw add-one
-          (omega (arith, l.invariant.2, run_more a.clock a.t2 a.most l.count (omega arith) (omega (arith, long st)) (sym q.ensures ∙ not-false q.result c.if-not-is_young.false-raw))),
-      rw add-one (omega (arith, l.invariant.3, n.ensures, total_more a.t1 l.count (omega (arith, long st)))),
+          (omega (arith, l.invariant.2, run_more a.clock a.ats a.most l.count (omega arith) (omega (arith, long)) (cc))),
+      rw add-one (omega (arith, l.invariant.3, n.ensures, total_more a.lens l.count (omega (arith, long)))),
       omega (arith, n.ensures),
       rw add-one (ap (λ (x : List ℕ). set x l.count ((16384 + c.passed-age.result) * 256 + n.result)) l.invariant.5
-          ∙ tagged_more a.clock a.t1 a.t2 (long st).0 (long st).1 l.count (omega arith) ((16384 + c.passed-age.result) * 256 + n.result) (λ i. (16384 + c.passed-age.ensures i) * 256 + n.ensures i)),
+          ∙ tagged_more a.clock a.lens a.ats (long).0 (long).1 l.count (omega arith) ((16384 + c.passed-age.result) * 256 + n.result) (λ i. (16384 + c.passed-age.ensures i) * 256 + n.ensures i)),
     )
