@@ -1,7 +1,7 @@
 -- Whole pieces one behind the other, read as bytes.
 use Prim.Native.Nat.{ℕ, zero, suc, ◌+◌, ◌-◌, ◌*◌, ◌/◌, ◌%◌, ◌<◌, ◌≤◌}
 use mathlib.Core.Path.{◌≡◌, ◌∙◌, refl, ap, sym}
-use mathlib.Core.List.{List, [], ◌∷◌, ◌++◌, append_assoc, append-nil}
+use mathlib.Core.List.{List, [], ◌++◌, append_assoc, append-nil}
 use mathlib.Core.Bool.{Bool, true}
 use native.Mathlib.Omega.{arith}
 use borrow.Author.Tests.{lt-ltb}
@@ -16,7 +16,7 @@ use Rattle.packet_spec.specs.Redundancy.{joined}
 use Rattle.journal_spec.specs.Records.{piece_length}
 use Rattle.journal_spec.specs.Contents.{longest_packet}
 use Rattle.parts.specs.declared.Part.{Part}
-use Rattle.parts.specs.Bytes.{Reading, going, byte, in_piece, piece_end}
+use Rattle.parts.specs.Bytes.{going, byte, in_piece, piece_end}
 use Rattle.parts.specs.Sound.{whole_pieces}
 use Rattle.parts.proofs.Laws.{Moves, and_then, stays, first, piece_end_lem}
 use Rattle.parts.proofs.Sound.{whole, whole_is}

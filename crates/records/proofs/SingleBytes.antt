@@ -1,10 +1,7 @@
 -- A turn of the reader over one byte, outside pieces and times.
 use Prim.Native.Nat.{ℕ, ◌+◌, ◌*◌, ◌%◌, ◌<◌, ◌≤◌}
 use mathlib.Core.Path.{◌≡◌, ◌∙◌, refl, ap, sym}
-use mathlib.Core.List.{List, [], ◌∷◌}
-use mathlib.Core.Logic.{⊎_elim}
-use types.Run.{OneOf}
-use denote.Enum.Declared as Declared
+use mathlib.Core.List.{List, []}
 use mathlib.Core.Bool.{Bool, true, false, cond}
 use native.Mathlib.Omega.{arith}
 use borrow.Author.Tests.{ltb-true, ltb-false, le-leb, eqb-true}
@@ -12,9 +9,7 @@ use lib.Dec.{ltb, eqb}
 use lib.ListN.{length, get_or, take}
 use lib.Seq.{length-take-le}
 use Rattle.packet_spec.specs.Header.{types_bad}
-use Rattle.base.specs.Arrays.{over}
 use Rattle.base.proofs.Tests.{by_test, both}
-use Rattle.parts.specs.contracts.Part.{the_type}
 use Rattle.parts.specs.declared.Part.{Part}
 use Rattle.parts.specs.declared.Part.TheVariants.{Kind, Types, Red, Length, Low, Piece, Time, Opened, Packet, Ended, Broken}
 use Rattle.reading.specs.declared.Reader.{Reader}
@@ -145,25 +140,15 @@ module _ (r : Reader) (p s : List ℕ) (ok : sound r ≡ true) (some : 0 < lengt
   turn_byte q e h r' n re ne =
       rw (re ∙ ap (λ (x : Part). Readers.reader_byte x r v) e, ne ∙ ap (λ (x : Part). cond (going x) 1 0) e) (by_part q e h)
 
-not_single : (n : ℕ) → OneOf (1 ∷ 2 ∷ 3 ∷ 4 ∷ 7 ∷ 8 ∷ 9 ∷ 10 ∷ []) n → (4 < n) × (n < 7) → ⊥
-not_single n h k =
-    ⊎_elim (λ e. omega arith) (⊎_elim (λ e. omega arith) (⊎_elim (λ e. omega arith) (⊎_elim (λ e. omega arith) (⊎_elim (λ e. omega arith) (⊎_elim (λ e. omega arith)
-    (⊎_elim (λ e. omega arith) (λ e. omega arith))))))) h
-
-not_kind : (n : ℕ) → OneOf (1 ∷ 2 ∷ 3 ∷ 4 ∷ 7 ∷ 8 ∷ 9 ∷ 10 ∷ []) n → n ≡ 0 → ⊥
-not_kind n h k =
-    ⊎_elim (λ e. omega arith) (⊎_elim (λ e. omega arith) (⊎_elim (λ e. omega arith) (⊎_elim (λ e. omega arith) (⊎_elim (λ e. omega arith) (⊎_elim (λ e. omega arith)
-    (⊎_elim (λ e. omega arith) (λ e. omega arith))))))) h
-
-pub single : (q : Part) → OneOf (1 ∷ 2 ∷ 3 ∷ 4 ∷ 7 ∷ 8 ∷ 9 ∷ 10 ∷ []) (Declared.tag_of the_type q) → Single q
-single Kind h = absurd (not_kind 0 h refl)
-single Types h = tt
-single (Red t140) h = tt
-single Length h = tt
-single (Low high) h = tt
-single (Piece n) h = absurd (not_single 5 h (omega arith, omega arith))
-single (Time n) h = absurd (not_single 6 h (omega arith, omega arith))
-single (Opened t140 red) h = tt
-single Packet h = tt
-single Ended h = tt
-single Broken h = tt
+pub single : (q : Part) → (q ≡ Kind → ⊥) → ((n : ℕ) → q ≡ Piece n → ⊥) → ((n : ℕ) → q ≡ Time n → ⊥) → Single q
+single Kind k p t = absurd (k refl)
+single Types k p t = tt
+single (Red t140) k p t = tt
+single Length k p t = tt
+single (Low high) k p t = tt
+single (Piece n) k p t = absurd (p n refl)
+single (Time n) k p t = absurd (t n refl)
+single (Opened t140 red) k p t = tt
+single Packet k p t = tt
+single Ended k p t = tt
+single Broken k p t = tt
