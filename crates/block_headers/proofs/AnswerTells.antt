@@ -12,7 +12,7 @@ use Rattle.packet.specs.declared.Outcome.TheVariants.{Accepted, Refused}
 use Rattle.packet.specs.declared.Refusal.{Refusal}
 use Rattle.block_headers.specs.declared.Headers.{Headers}
 use Rattle.packet_spec.specs.Limits.{level}
-use Rattle.packet_spec.specs.Redundancy.{Head, Heads, heads, bad, headers, total, ages_fall}
+use Rattle.packet_spec.specs.Redundancy.{Heads, heads, bad, headers, total, ages_fall}
 use Rattle.packet_spec.specs.Internal.Heads.{heads_in}
 use Rattle.packet.specs.Refusal.{number, outcome_number}
 use Rattle.block_headers.specs.Internal.Seen.{HeadersSeen, headers_seen, seen_before, heads_within, headers_of}

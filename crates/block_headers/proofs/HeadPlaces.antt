@@ -7,7 +7,7 @@ use native.Mathlib.Omega.{arith}
 use lib.ListN.{length, get_or, drop}
 use lib.Seq.{drop-drop}
 use borrow.Author.Tests.{le-ltb}
-use Rattle.packet_spec.specs.Redundancy.{Head, head_of}
+use Rattle.packet_spec.specs.Redundancy.{head_of}
 use Rattle.packet_spec.specs.Internal.Heads.{heads_in}
 use Rattle.block_headers.specs.Headers.{no_head, head_at}
 use Rattle.packet_spec.proofs.HeadsIn.{head_is}

@@ -2,22 +2,21 @@
 use Prim.Native.Nat.{ℕ, zero, suc, ◌+◌, ◌-◌, ◌*◌, ◌<◌, ◌≤◌}
 use mathlib.Core.Path.{◌≡◌, ◌∙◌, refl, ap, sym}
 use mathlib.Core.List.{List, [], ◌∷◌, ◌++◌}
-use mathlib.Core.Bool.{Bool, false, not, cond, ◌||◌}
+use mathlib.Core.Bool.{not}
 use native.Mathlib.Omega.{arith}
-use lib.Dec.{ltb, T as Holds}
+use lib.Dec.{T as Holds}
 use lib.ListN.{length, take, drop, length-drop}
 use lib.Seq.{length-take-le}
 use borrow.Author.Tests.{lt-ltb, le-ltb}
 use Rattle.packet.specs.declared.Outcome.{Outcome}
 use Rattle.packet.specs.declared.Outcome.TheVariants.{Accepted, Refused}
-use Rattle.packet.specs.declared.Packet.{Packet}
 use Rattle.packet.specs.declared.Reading.{Reading}
 use Rattle.base.specs.Arrays.{filled}
 use Rattle.packet_spec.specs.Limits.{level}
 use Rattle.packet_spec.specs.Header.{Expected, header_end, payload_end}
-use Rattle.packet_spec.specs.Redundancy.{Head, total, older_of, joined}
+use Rattle.packet_spec.specs.Redundancy.{Head, total, older_of}
 use Rattle.packet_spec.specs.Internal.Heads.{heads_in}
-use Rattle.packet_spec.specs.Reading.{Content, holds, refused, reading, blocks, starts_at}
+use Rattle.packet_spec.specs.Reading.{Content, reading, starts_at}
 use Rattle.packet.specs.Refusal.{outcome_number, is_refused}
 use Rattle.packet.specs.Places.{numbered, placed, read_of}
 use Rattle.boundary.specs.declared.packets.Older.{Older}

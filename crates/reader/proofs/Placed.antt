@@ -3,13 +3,13 @@ use Prim.Native.Nat.{ℕ, ◌+◌, ◌-◌, ◌≤◌}
 use mathlib.Core.Path.{◌≡◌, ◌∙◌, refl, ap, sym, subst}
 use mathlib.Core.List.{List}
 use native.Mathlib.Omega.{arith}
-use lib.Dec.{ltb, eqb}
+use lib.Dec.{eqb}
 use lib.ListN.{length, length-drop}
 use borrow.Author.Rules.{rules}
 use borrow.Author.Tests.{ltb-false}
 use Rattle.packet.specs.declared.Packet.{Packet}
 use Rattle.packet_spec.specs.Limits.{level}
-use Rattle.packet_spec.specs.Header.{Expected, payload_type, header_end, payload_end, payload, padding_bad, marker_of, sequence_of, timestamp_of, source_of}
+use Rattle.packet_spec.specs.Header.{Expected, payload_type, header_end, payload_end, marker_of, sequence_of, timestamp_of, source_of}
 use Rattle.packet_spec.specs.Redundancy.{Head, Heads, heads, bad, total, primary_of, joined}
 use Rattle.packet_spec.specs.Reading.{Content, holds, refused, header_checks, heads_of, content, block_checks, blocks_read, reading, blocks}
 use Rattle.packet.specs.Places.{placed, refused_answer, answer, read_of}

@@ -11,7 +11,7 @@ use Rattle.text_spec.specs.Utf8.{Range, owed_after, is_text}
 use Rattle.text.specs.declared.Owed.{Owed}
 use Rattle.text.specs.declared.Walked.TheVariants.{Next}
 use Rattle.text.specs.Owed.{owes, walked}
-use Rattle.packet_spec.specs.Redundancy.{Head, are_text}
+use Rattle.packet_spec.specs.Redundancy.{Head}
 use Rattle.packet_spec.specs.Internal.Heads.{heads_in}
 use Rattle.packet_spec.proofs.HeadsIn.{heads_length}
 use Rattle.block_headers.proofs.HeadPlaces.{head_at_is}
@@ -31,7 +31,7 @@ loop-i-init c =
     let n : length hs ≡ a.count = heads_length a.count (drop a.from p) in
     let h : Here p hs a.count a.end l.k l.at to =
     elim c.if-k-count.branch [
-      then-k-count w ↦ older_here p hs a.count a.end l.k l.at to n l.invariant.2 w.if-k-count.true (w.to-is ∙ ap (λ (h : Head). l.at + h.len) (w.head_at-head.ensures.0 ∙ head_at_is p a.from a.count l.k w.if-k-count.true (omega arith)))
+      | then-k-count w ↦ older_here p hs a.count a.end l.k l.at to n l.invariant.2 w.if-k-count.true (w.to-is ∙ ap (λ (h : Head). l.at + h.len) (w.head_at-head.ensures.0 ∙ head_at_is p a.from a.count l.k w.if-k-count.true (omega arith)))
       | else-k-count w ↦ primary_here p hs a.count a.end l.k l.at to n l.invariant.2 l.invariant.0 w.if-k-count.false w.to-is
     ] in (
       h.ahead,
@@ -48,7 +48,7 @@ loop-i-preserved c =
     let b = get_or p l.i 0 in
     let f : owed_after (owes l.owed) b ≡ some (owes c.if-tails-eq0.owed) =
     elim c.if-tails-eq0.branch [
-      then-tails-eq0+then-byte-ge128+in-Next w ↦ owes_lead l.owed b w.if-tails-eq0.true (sym w.lead.ensures ∙ ap walked (w.in-Next.is ∙ ap Next (sym w.owed-is)))
+      | then-tails-eq0+then-byte-ge128+in-Next w ↦ owes_lead l.owed b w.if-tails-eq0.true (sym w.lead.ensures ∙ ap walked (w.in-Next.is ∙ ap Next (sym w.owed-is)))
       | then-tails-eq0+else-byte-ge128 w ↦ owes_ascii l.owed b w.if-tails-eq0.true w.if-byte-ge128.false ∙ ap (λ (o : Owed). some (owes o)) (sym w.owed-is)
       | else-tails-eq0+in-Next-step w ↦ sym w.step.ensures ∙ ap walked (w.in-Next-step.is ∙ ap Next (sym w.owed-is))
     ] in
