@@ -1,5 +1,5 @@
 -- The clock call's answer as a signed number of 64 bits.
-use Prim.Native.Nat.{ℕ, zero, suc, ◌*◌, ◌^◌, ◌<◌, ◌≤◌}
+use Prim.Native.Nat.{ℕ, zero, suc, ◌*◌, ◌^◌, ◌<◌}
 use mathlib.Core.Path.{◌≡◌, refl, ◌∙◌, ap, sym, subst}
 use mathlib.Core.List.{List}
 use native.Mathlib.Omega.{arith}
@@ -11,7 +11,7 @@ use mir.Syntax.{w64}
 use mir.Val.{to_z, SFits}
 use mir.Facts.{to_z_pos}
 use Rattle.sender_spec.specs.State as State
-use Rattle.sender_spec.specs.Answers.{ClockAnswer, refused, quiet, sent, ClockResult}
+use Rattle.sender_spec.specs.Answers.{ClockAnswer, ClockResult}
 use Rattle.sender_spec.specs.Calls.{clock_of}
 use Rattle.sender_spec.proofs.Shapes as Shapes
 use Rattle.sender_spec.proofs.Shapes.{Clock, clock_shape}
