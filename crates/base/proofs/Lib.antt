@@ -11,5 +11,4 @@ pub mod EveryLaws
 pub mod Lent
 pub mod Pasted
 pub mod Written
-pub mod Records
 pub mod Replaced

@@ -1,4 +1,3 @@
 pub mod Readings
 pub mod Arrivals
 pub mod Calls
-pub mod Advancing

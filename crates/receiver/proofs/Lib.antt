@@ -1,4 +1,3 @@
 pub mod ViewSaysAll
 pub mod SignedDistance
 pub mod Steps
-pub mod Advancing
