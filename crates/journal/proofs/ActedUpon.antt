@@ -1,7 +1,7 @@
 -- What was read is acted upon: where the transcript stands then, and that it is ready.
 use Prim.Native.Nat.{ℕ, ◌-◌, ◌≤◌}
 use mathlib.Core.Path.{◌≡◌, ◌∙◌, refl, ap, sym}
-use mathlib.Core.List.{List, []}
+use mathlib.Core.List.{List}
 use mathlib.Core.Bool.{true, false, true≢false}
 use native.Mathlib.Omega.{arith}
 use lib.ListN.{length, take}
@@ -21,18 +21,15 @@ use Rattle.reading.specs.Internal.Bytes.{past_at, past_of}
 use Rattle.reading.proofs.Sound.{small, packet_inside}
 use Rattle.receiver.specs.declared.Receiver.{Receiver}
 use Rattle.receiver.specs.View.{receiver_of}
-use Rattle.receiver_spec.specs.Opening as Openings
-use Rattle.receiver_spec.specs.Step.{step_of, text_given}
-use Rattle.receiver_spec.specs.Answers.{StepAnswer}
-use Rattle.receiver_spec.specs.Record.{loss_of}
-use Rattle.receiver_spec.proofs.GivenWithin.{Within, given_lies}
+use Rattle.receiver_spec.specs.Step.{step_of}
+use Rattle.receiver_spec.proofs.GivenWithin.{given_lies}
 use Rattle.counts.specs.declared.Counts.{Counts}
-use Rattle.counts.specs.Counts.{counted, line_of, OneMore}
+use Rattle.counts.specs.Counts.{line_of, OneMore}
 use Rattle.due.specs.declared.Due.{Due}
 use Rattle.due.specs.Due.{empty_due, line_due, due_of}
 use Rattle.due.proofs.Arising.{none_text, line_text, line_within, answer_within, answer_text, answer_marks}
 use Rattle.acting.specs.declared.Acted.{Acted}
-use Rattle.acting.specs.Internal.Acting.{OpensReceiver, Steps, PutsLine, Closes, Acts}
+use Rattle.acting.specs.Internal.Acting.{OpensReceiver, Steps, PutsLine, Acts}
 use Rattle.standing.specs.Standing.{Standing, closed, next_record, packet_in, stepped, settled}
 use Rattle.standing.proofs.Settled.{settled_at_lem, waits_at, at_limit, before_limit}
 use Rattle.journal.specs.declared.Transcript.{Transcript}

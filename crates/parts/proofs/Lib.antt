@@ -1,5 +1,4 @@
 pub mod Spans
 pub mod BytesTellRecords
 pub mod Laws
-pub mod Zeros
 pub mod Sound

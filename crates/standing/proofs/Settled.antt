@@ -1,5 +1,5 @@
 -- What was read and is acted upon, by its part.
-use mathlib.Core.Path.{◌≡◌, ◌∙◌, refl, ap, sym}
+use mathlib.Core.Path.{◌≡◌, refl, ap, sym}
 use mathlib.Core.Bool.{Bool, true, cond, true≢false}
 use borrow.Author.Tests.{eq-eqb, ne_eqb}
 use Rattle.parts.specs.declared.Part.{Part}

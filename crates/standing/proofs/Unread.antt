@@ -1,11 +1,10 @@
 -- How far reading goes in bytes that are lent.
-use Prim.Native.Nat.{ℕ, zero, suc, ◌-◌, ◌<◌, ◌≤◌}
-use mathlib.Core.Path.{◌≡◌, ◌∙◌, refl, sym}
+use Prim.Native.Nat.{ℕ, suc, ◌<◌, ◌≤◌}
+use mathlib.Core.Path.{◌≡◌, ◌∙◌, sym}
 use mathlib.Core.List.{List, [], ◌∷◌}
-use mathlib.Core.Bool.{Bool, true, false, cond, ◌&&◌, true≢false}
+use mathlib.Core.Bool.{Bool, true, false, cond, true≢false}
 use native.Mathlib.Omega.{arith}
-use lib.ListN.{length, take, drop}
-use lib.Seq.{take-nil}
+use lib.ListN.{length}
 use Rattle.base.proofs.Tests.{and_left}
 use Rattle.parts.specs.Bytes.{Reading, read_to, unread, going, byte}
 use Rattle.standing.specs.Standing.{Standing, hungry, nothing_due}
