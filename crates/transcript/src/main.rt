@@ -132,7 +132,14 @@ fn main(rt: HostRuntime) {
     let mut stdin = rt.stdin();
     let mut stdout = rt.stdout();
     let mut stderr = rt.stderr();
-    if !run(&mut input, &mut packet, &mut out, &mut stdin, &mut stdout, &mut stderr) {
+    if !run(
+        &mut input,
+        &mut packet,
+        &mut out,
+        &mut stdin,
+        &mut stdout,
+        &mut stderr,
+    ) {
         write_all(
             &mut stderr,
             b"transcript: cannot write to standard output; the transcript is cut short\n",

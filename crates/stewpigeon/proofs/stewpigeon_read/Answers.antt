@@ -1,4 +1,4 @@
-use Rattle.std.proofs.Common.{◌≡◌, ◌∙◌, ap, sym, subst}
+use Rattle.std.proofs.Common.{◌≡◌, ◌∙◌, ap, sym}
 use Rattle.packet_spec.specs.Header.{Expected}
 use Rattle.boundary.specs.Answers.{expected_of}
 use Rattle.packet.specs.Places.{numbered, read_of}

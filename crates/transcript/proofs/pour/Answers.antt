@@ -1,8 +1,6 @@
 use mathlib.Core.Path.{◌∙◌, sym}
 use native.Mathlib.Omega.{arith}
-use lib.ListN.{length}
 use lib.Seq.{length-take-le}
-use borrow.Author.Tests.{not-false}
 use Rattle.transcript.proofs.Turns.{filled, turn_uses, turn_less}
 use Rattle.transcript.proofs.pour.Goals as goal
 
