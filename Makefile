@@ -29,7 +29,7 @@ pages := $(wildcard man/*.1)
 completed := $(rust_names) stewpigeon-archive
 
 # With the folders, which are newer where a file is gone.
-proved_sources := crates.txt $(shell find crates)
+proved_sources := crates.txt $(shell find $(wildcard crates/*/src crates/*/specs crates/*/proofs))
 rust_sources := Cargo.toml Cargo.lock $(shell find rust)
 
 installed := \
@@ -43,13 +43,11 @@ all: $(library) $(program) $(rust_programs)
 
 $(library): $(proved_sources)
 	tools/install
-	rt staticlib stewpigeon
-	touch $@
+	tools/build library
 
-# After the library: rt takes one command at a time.
+# After the library: both prove the crates below them.
 $(program): $(proved_sources) | $(library)
-	rt check transcript
-	touch $@
+	tools/build program
 
 $(rust_programs) &: $(rust_sources) $(library)
 	cargo build --offline --release --quiet -p capture -p inspect -p transcript-tool

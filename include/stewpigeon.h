@@ -2,7 +2,7 @@
  * Stewpigeon: a proved sender and receiver of RTP text (RFC 4103), and a packet reader.
  *
  * Link with libstewpigeon.a: `pkg-config --cflags --libs stewpigeon` tells how where it is installed (`make install`);
- * `rt staticlib stewpigeon` writes it to target/staticlib.
+ * `tools/build library` writes it to target/staticlib.
  *
  * Records belong to the caller, who lends them for the time of a call. Any values of their fields get an answer; only
  * a record that the opening filled and nobody else wrote to does what a line should. In a flag 0 is false and all else

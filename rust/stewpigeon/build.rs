@@ -15,7 +15,7 @@ fn main() {
     println!("cargo:rerun-if-changed={}", library.display());
     if !library.is_file() {
         eprintln!("The proved library is missing: {}", library.display());
-        eprintln!("Run `rt staticlib stewpigeon` in the repository's root, then build again;");
+        eprintln!("Run `tools/build library` in the repository's root, then build again;");
         eprintln!("or set STEWPIGEON_LIB_DIR to the directory that holds libstewpigeon.a.");
         exit(1);
     }

@@ -53,7 +53,7 @@ impl Program {
         match path.canonicalize() {
             Ok(path) => Ok(Program::new(path, &[])),
             Err(_) => Err(format!(
-                "no program {}; run `rt check` in the repository's root first, \
+                "no program {}; run `tools/build program` in the repository's root first, \
                  or name another program by {PATH_VARIABLE}",
                 path.display()
             )),

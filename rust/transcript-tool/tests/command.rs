@@ -21,7 +21,8 @@ const NON_BLOCKING: i32 = 0o4000;
 fn command() -> Command {
     let proved = Path::new(env!("CARGO_MANIFEST_DIR")).join("../../target/bin/transcript");
     let program = env::var_os("STEWPIGEON_TRANSCRIPT").map_or(proved, PathBuf::from);
-    let hint = "build the proved program first, with `rt check` in the repository's root";
+    let hint =
+        "build the proved program first, with `tools/build program` in the repository's root";
     assert!(program.is_file(), "no {}: {hint}", program.display());
     with(&program)
 }
