@@ -6,15 +6,15 @@ use native.Mathlib.Omega.{arith}
 use lib.ListN.{length, get_or, set, take}
 
 module _ {A B : Type 0} (f : A → B) where
-  pub get_d_map : (l : List A) (i : ℕ) (d : A) → get_or (map f l) i (f d) ≡ f (get_or l i d)
-  get_d_map [] i d = refl
-  get_d_map (x ∷ l) zero d = refl
-  get_d_map (x ∷ l) (suc i) d = get_d_map l i d
+  pub get_or_map : (l : List A) (i : ℕ) (d : A) → get_or (map f l) i (f d) ≡ f (get_or l i d)
+  get_or_map [] i d = refl
+  get_or_map (x ∷ l) zero d = refl
+  get_or_map (x ∷ l) (suc i) d = get_or_map l i d
 
-  pub get_d_map_inside : (l : List A) (i : ℕ) (d : A) (e : B) → i < length l → get_or (map f l) i e ≡ f (get_or l i d)
-  get_d_map_inside [] i d e h = absurd (omega arith)
-  get_d_map_inside (x ∷ l) zero d e h = refl
-  get_d_map_inside (x ∷ l) (suc i) d e h = get_d_map_inside l i d e (omega arith)
+  pub get_or_map_inside : (l : List A) (i : ℕ) (d : A) (e : B) → i < length l → get_or (map f l) i e ≡ f (get_or l i d)
+  get_or_map_inside [] i d e h = absurd (omega arith)
+  get_or_map_inside (x ∷ l) zero d e h = refl
+  get_or_map_inside (x ∷ l) (suc i) d e h = get_or_map_inside l i d e (omega arith)
 
   pub map_set : (l : List A) (i : ℕ) (x : A) → map f (set l i x) ≡ set (map f l) i (f x)
   map_set [] i x = refl

@@ -21,7 +21,7 @@ use Rattle.demands.specs.Sending.{Call, Written, primary_sent, writes, sender_af
 use Rattle.demands.specs.Demand2.{ReadBack}
 use Rattle.demands.specs.Demand3.{rules_of, packet_at, SpacedAfter}
 use Rattle.base.specs.Every.{Every}
-use Rattle.base.proofs.Maps.{get_d_map, get_d_map_inside}
+use Rattle.base.proofs.Maps.{get_or_map, get_or_map_inside}
 use Rattle.sender_spec.proofs.TimesFall.{due_apart}
 use Rattle.sender_spec.proofs.StaysSendable.{fresh_good}
 use Rattle.sender_spec.proofs.SettingsPass.{settings_good}
@@ -106,7 +106,7 @@ module _ (x : Settings) (calls : List Call) (good : settings_number x ≡ 0) whe
           let h : k < length ws = ltb-true k (length ws) l in
           let w = get_or ws k none in
           let q : reading level Any x.t140 x.red w.packet ≡ holds c =
-          ap (reading level Any x.t140 x.red) (sym (get_d_map_inside (λ v. v.packet) ws k none [] h)) ∙ e in
+          ap (reading level Any x.t140 x.red) (sym (get_or_map_inside (λ v. v.packet) ws k none [] h)) ∙ e in
           let r : holds w.content ≡ holds c = sym (back_at x ws k none (good_back x calls (fresh_sender x) refl (fresh_good x)) h) ∙ q in
           let s : w.content ≡ c = cc in
           subst (IsPacket ours_rules k) s
@@ -119,10 +119,10 @@ module _ (x : Settings) (calls : List Call) (good : settings_number x ≡ 0) whe
 
   -- the rules as the demand has them
   same_block : (k : ℕ) → (log k).text ≡ get_or (map primary_sent ws) k []
-  same_block k = sym (get_d_map (λ (b : SentBlock). b.text) (map block_of ws) k beyond) ∙ ap (λ (l : List (List ℕ)). get_or l k []) (map-map (λ (b : SentBlock). b.text) block_of ws)
+  same_block k = sym (get_or_map (λ (b : SentBlock). b.text) (map block_of ws) k beyond) ∙ ap (λ (l : List (List ℕ)). get_or l k []) (map-map (λ (b : SentBlock). b.text) block_of ws)
 
   same_time : (k : ℕ) → (log k).at ≡ get_or (map (λ w. w.time) ws) k beyond.at
-  same_time k = sym (get_d_map (λ (b : SentBlock). b.at) (map block_of ws) k beyond) ∙ ap (λ (l : List ℕ). get_or l k beyond.at) (map-map (λ (b : SentBlock). b.at) block_of ws)
+  same_time k = sym (get_or_map (λ (b : SentBlock). b.at) (map block_of ws) k beyond) ∙ ap (λ (l : List ℕ). get_or l k beyond.at) (map-map (λ (b : SentBlock). b.at) block_of ws)
 
   same_rules : ours_rules ≡ rules_of x ws beyond.at
   same_rules i = record { level = x.level; first = x.sequence; block = λ k. same_block k i; time = λ k. same_time k i }
