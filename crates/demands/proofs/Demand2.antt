@@ -136,7 +136,7 @@ demand_2 = record {
   joins = joins;
   writes_when_due = writes_when_due;
   read_back = back_from_opening;
-  ages_fall_lem = λ x calls o. read_ages x (sent_by ours x calls) (back_from_opening x calls o);
+  ages_fall = λ x calls o. read_ages x (sent_by ours x calls) (back_from_opening x calls o);
   as_typed = λ x calls o.
       subst (λ (s : Sender). primaries (written ours s calls) ++ (finally ours s calls).waiting ≡ typed ours s calls) (sym (open_passed x o).1) (typed_from calls (fresh_sender x) (fresh_good x));
 }

@@ -244,6 +244,6 @@ pub sixteen_for_ever_fails : Demand1 (with_step sixteen_for_ever) → ⊥
 unfolding step_of reading headers sender.open_sender settings_number offer_of clock_of level
 sixteen_for_ever_fails d =
     let r : Receiver = record { t140 = 98; red = 100; has_source = true; source = 7; expected = 0; has_kept = false; kept = 0 } in
-    let q = (d.step_number_lem r (packet 1) 16).0 refl in
+    let q = (d.step_number r (packet 1) 16).0 refl in
     let z : ◌≡◌ {A = ℕ} 0 1 = ap number_of q in
     omega arith

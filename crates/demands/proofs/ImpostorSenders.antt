@@ -153,6 +153,6 @@ pub hasty_fails : Demand2 hasty → ⊥
 unfolding sender.open_sender settings_number offer_of clock_of level
 hasty_fails d =
     let calls = offer 300 (0x41 ∷ []) ∷ clock 300 space ∷ offer 300 (0x42 ∷ []) ∷ clock 300 space ∷ [] in
-    let e : ◌≡◌ {A = Bool} false true = (d.ages_fall_lem (settings 1) calls refl).1.0 in
+    let e : ◌≡◌ {A = Bool} false true = (d.ages_fall (settings 1) calls refl).1.0 in
     let z : ◌≡◌ {A = ℕ} 0 1 = cc in
     omega arith

@@ -45,7 +45,7 @@ pub record Demand2 (l : Line) : Type 0 where
   -- over every list of calls from an accepted opening: what was written is read back,
   pub read_back : (x : Settings) (calls : List Call) → (l.open_sender x).number ≡ 0 → Every (ReadBack l x) (sent_by l x calls)
   -- the ages of its older blocks fall,
-  pub ages_fall_lem : (x : Settings) (calls : List Call) → (l.open_sender x).number ≡ 0 → Every AgesFall (sent_by l x calls)
+  pub ages_fall : (x : Settings) (calls : List Call) → (l.open_sender x).number ≡ 0 → Every AgesFall (sent_by l x calls)
   -- and the primaries, joined, and then what waits are the texts of the accepted offers: nothing is lost, doubled or moved
   pub as_typed : (x : Settings) (calls : List Call) → (l.open_sender x).number ≡ 0
       → joined (map primary_sent (sent_by l x calls)) ++ (left_by l x calls).waiting ≡ typed_by l x calls
