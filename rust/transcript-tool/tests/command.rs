@@ -229,12 +229,20 @@ fn failed_output() {
         assert!(text(&output.stderr).contains(expected));
     }
     assert_eq!(shell("> /dev/null", &[&name]).status.code(), Some(0));
-    // Nobody reads what is printed.
+    // Nobody reads what is printed. What another test starts holds this pipe
+    // too until it runs, so more is typed until the end.
     let mut child = command().spawn().unwrap();
     drop(child.stdout.take());
     let mut input = child.stdin.take().unwrap();
-    input.write_all(&recorded(&["a"]).bytes).unwrap();
-    assert_eq!(child.wait().unwrap().code(), Some(3));
+    let mut sent = 0;
+    let status = (1..1000).find_map(|count| {
+        let bytes = recorded(&vec!["a"; count]).bytes;
+        let _ = input.write_all(&bytes[sent..]);
+        sent = bytes.len();
+        thread::sleep(Duration::from_millis(10));
+        child.try_wait().unwrap()
+    });
+    assert_eq!(status.and_then(|status| status.code()), Some(3));
     // The program is cut off.
     for lines in ["printf a; kill -KILL $$", "printf 'a\\njournal'", "true"] {
         let output = run_lines(&[], lines);
