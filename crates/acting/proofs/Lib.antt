@@ -1,1 +1,2 @@
 pub mod ByPart
+pub mod Stepping

@@ -1,15 +1,18 @@
 // Bytes copied to the front of a lent space.
 #![tactic(auto)]
 
-ghost use Rattle.std.specs.Prelude.{◌≡◌, ◌≤◌, length};
+ghost use Rattle.std.specs.Prelude.{◌≡◌, ◌≤◌, ◌<◌, length};
 ghost use Rattle.base.specs.Arrays.{over};
 
-// Answers how many.
+// Answers how many: all of them where they fit, else none, and the space stays.
 pub fn copy(from: &[u8], to: &mut [u8]) -> usize
-    requires { length from.now ≤ length to.old }
-    ensures { (result ≡ length from.now) × (to.new ≡ over from.now to.old) }
+    ensures fits { length from.now ≤ length to.old → (result ≡ length from.now) × (to.new ≡ over from.now to.old) }
+    ensures too_many { length to.old < length from.now → (result ≡ 0) × (to.new ≡ to.old) }
 {
     let n = from.len();
+    if to.len() < n {
+        return 0;
+    }
     to[..n].copy_from_slice(from);
     n
 }

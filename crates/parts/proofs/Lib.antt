@@ -2,3 +2,4 @@ pub mod Spans
 pub mod BytesTellRecords
 pub mod Laws
 pub mod Sound
+pub mod Zeros

@@ -22,19 +22,19 @@ use Rattle.writer.specs.Internal.Parts.{packet_with, packet_size}
 use Rattle.writer.proofs.PacketByParts.{packet_is, size_is, some_is}
 
 -- a packet has a header
-size-some : (R n older primary : ℕ) → 0 < packet_size R n older primary
-size-some R n older primary = go (eqb R 0)
+size_some : (R n older primary : ℕ) → 0 < packet_size R n older primary
+size_some R n older primary = go (eqb R 0)
   where
     go : (b : Bool) → 0 < cond b (12 + primary) (12 + (4 * n + 1 + (older + primary)))
     go true = omega arith
     go false = omega arith
 
 module _ (R n older primary size space : ℕ) (e : size ≡ packet_size R n older primary) where
-  pub by-short : space < size → answer_by size space ≡ Refused Space
-  by-short h = rw (ne_eqb size 0 (λ z. omega (arith, size-some R n older primary)), lt-ltb space size h)
+  pub by_short : space < size → answer_by size space ≡ Refused Space
+  by_short h = rw (ne_eqb size 0 (λ z. omega (arith, size_some R n older primary)), lt-ltb space size h)
 
-  pub by-sent : size ≤ space → answer_by size space ≡ Sent size
-  by-sent h = rw (ne_eqb size 0 (λ z. omega (arith, size-some R n older primary)), le-ltb space size h)
+  pub by_sent : size ≤ space → answer_by size space ≡ Sent size
+  by_sent h = rw (ne_eqb size 0 (λ z. omega (arith, size_some R n older primary)), le-ltb space size h)
 
 abbrev put : Bool → Bool → ℕ → List ℕ → List ℕ → Result
 put some few n w p =
@@ -54,13 +54,13 @@ module _ (d : Draft) (texts : List ℕ) (n : ℕ) (lens : length d.lens ≡ leve
       put (some_is d texts n lens ats whole run tags are i) (ltb (length p) (size_is d texts n lens ats whole run tags are i)) (size_is d texts n lens ats whole run tags are i)
       (over (sym (packet_is d texts n lens ats whole run tags are) i) p) p
 
-  pub put-quiet : text ≡ 0 → record { answer = quiet; lent = p } ≡ put_of d texts p
-  put-quiet h = sym (put_is ∙ ap (λ (b : Bool). put b (ltb (length p) size) size (over (packet_with d tags texts n) p) p) (le-ltb 0 text (omega arith)))
+  pub put_quiet : text ≡ 0 → record { answer = quiet; lent = p } ≡ put_of d texts p
+  put_quiet h = sym (put_is ∙ ap (λ (b : Bool). put b (ltb (length p) size) size (over (packet_with d tags texts n) p) p) (le-ltb 0 text (omega arith)))
 
-  pub put-short : 0 < text → length p < size → record { answer = refused 8; lent = p } ≡ put_of d texts p
-  put-short h k =
+  pub put_short : 0 < text → length p < size → record { answer = refused 8; lent = p } ≡ put_of d texts p
+  put_short h k =
       sym (put_is ∙ (λ i. put (lt-ltb 0 text h i) (lt-ltb (length p) size k i) size (over (packet_with d tags texts n) p) p))
 
-  pub put-sent : 0 < text → size ≤ length p → record { answer = sent size; lent = over (packet_with d tags texts n) p } ≡ put_of d texts p
-  put-sent h k =
+  pub put_sent : 0 < text → size ≤ length p → record { answer = sent size; lent = over (packet_with d tags texts n) p } ≡ put_of d texts p
+  put_sent h k =
       sym (put_is ∙ (λ i. put (lt-ltb 0 text h i) (le-ltb (length p) size k i) size (over (packet_with d tags texts n) p) p))

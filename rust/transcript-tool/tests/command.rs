@@ -230,15 +230,13 @@ fn failed_output() {
     }
     assert_eq!(shell("> /dev/null", &[&name]).status.code(), Some(0));
     // Nobody reads what is printed. What another test starts holds this pipe
-    // too until it runs, so more is typed until the end.
+    // too until it runs, so it gets time to.
     let mut child = command().spawn().unwrap();
     drop(child.stdout.take());
+    thread::sleep(Duration::from_millis(500));
     let mut input = child.stdin.take().unwrap();
-    let mut sent = 0;
-    let status = (1..1000).find_map(|count| {
-        let bytes = recorded(&vec!["a"; count]).bytes;
-        let _ = input.write_all(&bytes[sent..]);
-        sent = bytes.len();
+    input.write_all(&recorded(&["a"]).bytes).unwrap();
+    let status = (0..6000).find_map(|_| {
         thread::sleep(Duration::from_millis(10));
         child.try_wait().unwrap()
     });

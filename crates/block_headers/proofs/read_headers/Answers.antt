@@ -18,9 +18,9 @@ use Rattle.packet_spec.proofs.HeadsIn.{head_within, total_snoc}
 use Rattle.packet_spec.proofs.HeadersByFacts.{at_end, at_last_other, at_last, at_too_many, at_cut_short, at_older_other, at_one_more}
 use Rattle.block_headers.proofs.read_headers.Goals as goal
 
-offsets-snoc : (hs : List Head) (h : Head) → map (λ (x : Head). x.offset) (hs ++ (h ∷ [])) ≡ map (λ (x : Head). x.offset) hs ++ (h.offset ∷ [])
-offsets-snoc [] h = refl
-offsets-snoc (x ∷ xs) h = ap (λ (l : List ℕ). x.offset ∷ l) (offsets-snoc xs h)
+offsets_snoc : (hs : List Head) (h : Head) → map (λ (x : Head). x.offset) (hs ++ (h ∷ [])) ≡ map (λ (x : Head). x.offset) hs ++ (h.offset ∷ [])
+offsets_snoc [] h = refl
+offsets_snoc (x ∷ xs) h = ap (λ (l : List ℕ). x.offset ∷ l) (offsets_snoc xs h)
 
 -- what was read, and what is left to read
 record Got (t140 : ℕ) (p : List ℕ) (from end count at total last : ℕ) (fall : Bool) : Type 0 where
@@ -133,7 +133,7 @@ loop-at-preserved c =
         many = length-append g.hs (h ∷ []) ∙ ap (λ (k : ℕ). k + 1) g.many;
         bytes = total_snoc g.hs h ∙ ap (λ (k : ℕ). k + h.len) g.bytes ∙ ap (λ (x : Head). l.total + x.len) (sym is);
         ages = λ x small.
-            ap (λ (os : List ℕ). fall_to os x) (offsets-snoc g.hs h)
+            ap (λ (os : List ℕ). fall_to os x) (offsets_snoc g.hs h)
             ∙ fall_more (map (λ (y : Head). y.offset) g.hs) h.offset x
             ∙ ap (λ (y : Head). fall_to (map (λ (z : Head). z.offset) g.hs) y.offset && ltb x y.offset) (sym is)
             ∙ ap (λ (b : Bool). b && ltb x r.result.offset) (g.ages r.result.offset (omega (arith, r.ensures.1)) ∙ sym c.fall_to-fall.ensures);

@@ -23,23 +23,23 @@ read_fields-requires c =
 pub returns-in-Refused : goal.returns-in-Refused
 unfolding header_of
 returns-in-Refused c =
-    let types-good : types_bad c.args.t140 c.args.red ≡ false = sym c.types_bad.ensures ∙ c.if-types_bad.false in
+    let types_good : types_bad c.args.t140 c.args.red ≡ false = sym c.types_bad.ensures ∙ c.if-types_bad.false in
     let q = c in
     let a = q.args in
     let p = a.packet.now in
     let x = passed_header a.t140 p in
     let e = expected_source a.expected in
     c.refused-in-Refused.ensures
-    ∙ sym (past_3 refused_header e a.t140 a.red p x (types-good) ∙ refused_told p q.read-layout.result q.read-layout.ensures refused_header (from refused_header e a.t140 a.red p x 6) c.in-Refused.refusal c.in-Refused.is)
+    ∙ sym (past_3 refused_header e a.t140 a.red p x (types_good) ∙ refused_told p q.read-layout.result q.read-layout.ensures refused_header (from refused_header e a.t140 a.red p x 6) c.in-Refused.refusal c.in-Refused.is)
 
 pub returns-in-Accepted : goal.returns-in-Accepted
 unfolding header_of
 returns-in-Accepted c =
-    let types-good : types_bad c.args.t140 c.args.red ≡ false = sym c.types_bad.ensures ∙ c.if-types_bad.false in
+    let types_good : types_bad c.args.t140 c.args.red ≡ false = sym c.types_bad.ensures ∙ c.if-types_bad.false in
     let q = c in
     let a = q.args in
     let p = a.packet.now in
     let x = passed_header a.t140 p in
     let e = expected_source a.expected in
     c.read_fields.ensures
-    ∙ sym (past_3 refused_header e a.t140 a.red p x (types-good) ∙ passed_told p q.read-layout.result q.read-layout.ensures c.in-Accepted.is refused_header (from refused_header e a.t140 a.red p x 6))
+    ∙ sym (past_3 refused_header e a.t140 a.red p x (types_good) ∙ passed_told p q.read-layout.result q.read-layout.ensures c.in-Accepted.is refused_header (from refused_header e a.t140 a.red p x 6))

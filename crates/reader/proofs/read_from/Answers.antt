@@ -18,24 +18,24 @@ returns-in-Refused c =
 pub returns-in-Refused-outcome : goal.returns-in-Refused-outcome
 returns-in-Refused-outcome c =
     let passed : let a = c.args in (header.header_of (expected_source a.expected) a.t140 a.red a.packet.now).number ≡ 0 = sym (ap (λ (h : header.HeaderSeen). h.number) c.read-header.ensures) ∙ ap outcome_number c.in-Accepted.is in
-    let seen-header : let a = c.args in header.header_seen c.read-header.result ≡ header.passed_header a.t140 a.packet.now = let a = c.args in c.read-header.ensures ∙ header_passed (expected_source a.expected) a.t140 a.red a.packet.now (passed) in
-    let seen-blocks : let a = c.args in blocks.blocks_seen c.read-blocks.result ≡ blocks_seen (expected_source a.expected) a.t140 a.red a.packet.now (passed) = let a = c.args in
-    c.read-blocks.ensures ∙ ap (λ (h : header.HeaderSeen). blocks.blocks_seen_at h.plain a.t140 a.packet.now h.from h.end) (seen-header) in
+    let seen_header : let a = c.args in header.header_seen c.read-header.result ≡ header.passed_header a.t140 a.packet.now = let a = c.args in c.read-header.ensures ∙ header_passed (expected_source a.expected) a.t140 a.red a.packet.now (passed) in
+    let seen_blocks : let a = c.args in blocks.blocks_seen c.read-blocks.result ≡ blocks_seen (expected_source a.expected) a.t140 a.red a.packet.now (passed) = let a = c.args in
+    c.read-blocks.ensures ∙ ap (λ (h : header.HeaderSeen). blocks.blocks_seen_at h.plain a.t140 a.packet.now h.from h.end) (seen_header) in
     let q = c in
     let a = q.args in
-    let n = sym (ap (λ (b : blocks.BlocksSeen). b.number) (seen-blocks)) ∙ ap outcome_number c.in-Refused-outcome.is in
+    let n = sym (ap (λ (b : blocks.BlocksSeen). b.number) (seen_blocks)) ∙ ap outcome_number c.in-Refused-outcome.is in
     c.refused-in-Refused-outcome.ensures ∙ blocks_refused (expected_source a.expected) a.t140 a.red a.packet.now (passed) (number c.in-Refused-outcome.refusal) (number_positive c.in-Refused-outcome.refusal) n
 
 pub returns-in-Accepted-outcome : goal.returns-in-Accepted-outcome
 returns-in-Accepted-outcome c =
     let passed : let a = c.args in (header.header_of (expected_source a.expected) a.t140 a.red a.packet.now).number ≡ 0 = sym (ap (λ (h : header.HeaderSeen). h.number) c.read-header.ensures) ∙ ap outcome_number c.in-Accepted.is in
-    let seen-header : let a = c.args in header.header_seen c.read-header.result ≡ header.passed_header a.t140 a.packet.now = let a = c.args in c.read-header.ensures ∙ header_passed (expected_source a.expected) a.t140 a.red a.packet.now (passed) in
-    let seen-blocks : let a = c.args in blocks.blocks_seen c.read-blocks.result ≡ blocks_seen (expected_source a.expected) a.t140 a.red a.packet.now (passed) = let a = c.args in
-    c.read-blocks.ensures ∙ ap (λ (h : header.HeaderSeen). blocks.blocks_seen_at h.plain a.t140 a.packet.now h.from h.end) (seen-header) in
+    let seen_header : let a = c.args in header.header_seen c.read-header.result ≡ header.passed_header a.t140 a.packet.now = let a = c.args in c.read-header.ensures ∙ header_passed (expected_source a.expected) a.t140 a.red a.packet.now (passed) in
+    let seen_blocks : let a = c.args in blocks.blocks_seen c.read-blocks.result ≡ blocks_seen (expected_source a.expected) a.t140 a.red a.packet.now (passed) = let a = c.args in
+    c.read-blocks.ensures ∙ ap (λ (h : header.HeaderSeen). blocks.blocks_seen_at h.plain a.t140 a.packet.now h.from h.end) (seen_header) in
     let q = c in
     let a = q.args in
-    let h = seen-header in
-    let b = seen-blocks in
+    let h = seen_header in
+    let b = seen_blocks in
     let n = sym (ap (λ (x : blocks.BlocksSeen). x.number) b) ∙ ap outcome_number c.in-Accepted-outcome.is in
     let m = c.byte_of-marker.ensures ∙ ap (λ (x : header.HeaderSeen). bit x.marker) h in
     (λ i. record {

@@ -21,8 +21,8 @@ module _ (s : List ℕ) (o : Owed) (n at b : ℕ) (h : at < length s) (e : b ≡
   one_more p f = on_at (owes o) n at s h f ∙ ap (λ (k : ℕ). text_from (owes p) (n + k) (at + 1) (drop (at + 1) s)) (sym e)
 
   -- an ASCII one, where nothing is owed
-  ascii-letter : o.tails ≡ 0 → get_or s at 0 < 0x80 → text_from (owes o) n at (drop at s) ≡ text_from (owes o) (n + b) (at + 1) (drop (at + 1) s)
-  ascii-letter z g = one_more o (owes_ascii o (get_or s at 0) z g)
+  ascii_letter : o.tails ≡ 0 → get_or s at 0 < 0x80 → text_from (owes o) n at (drop at s) ≡ text_from (owes o) (n + b) (at + 1) (drop (at + 1) s)
+  ascii_letter z g = one_more o (owes_ascii o (get_or s at 0) z g)
 
   -- and a run of them behind it
   ascii_run : o.tails ≡ 0 → get_or s at 0 < 0x80 → (m : ℕ) → m ≤ length (take (length s - (at + 1)) (drop (at + 1) s))
@@ -30,7 +30,7 @@ module _ (s : List ℕ) (o : Owed) (n at b : ℕ) (h : at < length s) (e : b ≡
       → text_from (owes o) n at (drop at s) ≡ text_from (owes o) (n + b + m) (at + 1 + m) (drop (at + 1 + m) s)
   ascii_run z g m l f =
       let d = mid_rest (at + 1) s in
-      ascii-letter z g ∙ rw (owes_none o z) (ascii_at s (n + b) (at + 1) m (rw d at l) (rw d at f))
+      ascii_letter z g ∙ rw (owes_none o z) (ascii_at s (n + b) (at + 1) m (rw d at l) (rw d at f))
 
 pub loop-at-preserved-then-run-eq8 : goal.loop-at-preserved-then-run-eq8
 loop-at-preserved-then-run-eq8 c =

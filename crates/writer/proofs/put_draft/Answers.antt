@@ -17,7 +17,7 @@ use Rattle.writer.specs.declared.Draft.{Draft}
 use Rattle.writer.specs.Draft.{clock_answer}
 use Rattle.writer.specs.Internal.Parts.{texts_of, front_in, packet_with, packet_size}
 use Rattle.writer.proofs.PacketByParts.{few, front_size_lem, size_is}
-use Rattle.writer.proofs.Answers.{by-short, by-sent, put-quiet, put-short, put-sent}
+use Rattle.writer.proofs.Answers.{by_short, by_sent, put_quiet, put_short, put_sent}
 use borrow.Author.Rules.{rules}
 use Rattle.writer.proofs.put_draft.Goals as goal
 
@@ -37,7 +37,7 @@ returns-then-older-primary-eq0 c =
     let are : let d = c.args.draft in AreTags d.clock d.lens d.ats c.run-carried.result.count c.run-carried.result.tags = λ i h. let d = c.args.draft in
     ap (λ (l : List ℕ). get_or l i 0) c.run-carried.ensures.4 ∙ tagged_are d.clock d.lens d.ats lens_long ats_long c.run-carried.result.count c.run-carried.ensures.2 i h in
     let a = c.args in
-    put-quiet c.args.draft a.texts.now c.run-carried.result.count lens_long ats_long c.requires run_is c.run-carried.result.tags are a.packet.now
+    put_quiet c.args.draft a.texts.now c.run-carried.result.count lens_long ats_long c.requires run_is c.run-carried.result.tags are a.packet.now
     (omega (arith, c.if-older-primary-eq0.true, c.run-carried.ensures.1, c.least-primary.ensures))
 
 pub returns-then-packet-size : goal.returns-then-packet-size
@@ -54,10 +54,10 @@ returns-then-packet-size c =
     let a = c.args in
     let n = c.run-carried.result.count in
     (λ i. record {
-      answer = clock_answer (by-short a.draft.level n (text_total (take n c.args.draft.lens)) (min a.draft.len room_size) c.size-size.result (length a.packet.now) size_of c.if-packet-size.true i);
+      answer = clock_answer (by_short a.draft.level n (text_total (take n c.args.draft.lens)) (min a.draft.len room_size) c.size-size.result (length a.packet.now) size_of c.if-packet-size.true i);
       lent = a.packet.now;
     })
-    ∙ put-short c.args.draft a.texts.now c.run-carried.result.count lens_long ats_long c.requires run_is c.run-carried.result.tags are a.packet.now
+    ∙ put_short c.args.draft a.texts.now c.run-carried.result.count lens_long ats_long c.requires run_is c.run-carried.result.tags are a.packet.now
     (omega (arith, c.if-older-primary-eq0.false, c.run-carried.ensures.1, c.least-primary.ensures)) (omega (arith, c.if-packet-size.true, size_of))
 
 pub put_front-at-requires : goal.put_front-at-requires
@@ -152,9 +152,9 @@ returns c =
     let a = c.args in
     let n = c.run-carried.result.count in
     (λ i. record {
-      answer = clock_answer (by-sent a.draft.level n (text_total (take n c.args.draft.lens)) (min a.draft.len room_size) c.size-size.result (length a.packet.now) size_of c.if-packet-size.false i);
+      answer = clock_answer (by_sent a.draft.level n (text_total (take n c.args.draft.lens)) (min a.draft.len room_size) c.size-size.result (length a.packet.now) size_of c.if-packet-size.false i);
       lent = whole i;
     })
     ∙ (λ i. record { answer = sent (size_of i); lent = over (packet_with c.args.draft c.run-carried.result.tags a.texts.now n) a.packet.now })
-    ∙ put-sent c.args.draft a.texts.now c.run-carried.result.count lens_long ats_long c.requires run_is c.run-carried.result.tags are a.packet.now
+    ∙ put_sent c.args.draft a.texts.now c.run-carried.result.count lens_long ats_long c.requires run_is c.run-carried.result.tags are a.packet.now
     (omega (arith, c.if-older-primary-eq0.false, c.run-carried.ensures.1, c.least-primary.ensures)) (omega (arith, c.if-packet-size.false, size_of))
