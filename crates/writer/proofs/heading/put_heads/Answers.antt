@@ -29,48 +29,43 @@ bounds-tags-i c = search rules
 
 pub put_head-requires : goal.put_head-requires
 put_head-requires c =
-    let room : length c.loop-i.to ≡ length c.args.to.now = let a = c.args in
+    let a = c.args in
     let l = c.loop-i in
+    let room : length l.to ≡ length a.to.now =
     turn_room (header_at a.t140 a.tags) (a.t140 ∷ []) a.count a.to.now l.to l.i l.at l.invariant.1 c.requires.2 in
-    let below : c.loop-i.i - 1 < c.args.count = let l = c.loop-i in
-    tag_below c.args.tags c.args.count c.requires.3 (l.i - 1) (omega (arith, l.invariant.0, c.loop-i-test.true)) c.if-tag-gt0.true in
-    let fits : c.loop-i.at + 4 ≤ length c.args.to.now = let a = c.args in
-    let l = c.loop-i in
+    let below : l.i - 1 < a.count =
+    tag_below a.tags a.count c.requires.3 (l.i - 1) (omega (arith, l.invariant.0, c.loop-i-test.true)) c.if-tag-gt0.true in
+    let fits : l.at + 4 ≤ length a.to.now =
     turn_fits (header_at a.t140 a.tags) (a.t140 ∷ []) a.count a.to.now l.to l.i l.at l.invariant.1 c.requires.2 c.loop-i-test.true below in
-    let l = c.loop-i in
     (c.requires.0, lent_fits l.at 4 l.to (omega (arith, room, fits)))
 
 pub loop-i-preserved-then-tag-gt0 : goal.loop-i-preserved-then-tag-gt0
 loop-i-preserved-then-tag-gt0 c =
-    let below : c.loop-i.i - 1 < c.args.count = let l = c.loop-i in
-    tag_below c.args.tags c.args.count c.requires.3 (l.i - 1) (omega (arith, l.invariant.0, c.loop-i-test.true)) c.if-tag-gt0.true in
-    let q = c.put_head in
     let a = c.args in
     let l = c.loop-i in
+    let q = c.put_head in
+    let below : l.i - 1 < a.count =
+    tag_below a.tags a.count c.requires.3 (l.i - 1) (omega (arith, l.invariant.0, c.loop-i-test.true)) c.if-tag-gt0.true in
     (omega arith, turn_next (header_at a.t140 a.tags) (a.t140 ∷ []) a.count a.to.now l.to l.i l.at l.invariant.1 c.requires.2 c.loop-i-test.true below q.new.to q.ensures)
 
 pub bounds-to-at : goal.bounds-to-at
 bounds-to-at c =
-    let room : length c.loop-i.to ≡ length c.args.to.now = let a = c.args in
+    let a = c.args in
     let l = c.loop-i in
+    let room : length l.to ≡ length a.to.now =
     turn_room (header_at a.t140 a.tags) (a.t140 ∷ []) a.count a.to.now l.to l.i l.at l.invariant.1 c.requires.2 in
-    let left : let a = c.args in
-    Begun (a.t140 ∷ []) (headers_for a.t140 a.tags a.count) a.to.now c.loop-i.to c.loop-i.at = let a = c.args in
-    let l = c.loop-i in
+    let left : Begun (a.t140 ∷ []) (headers_for a.t140 a.tags a.count) a.to.now l.to l.at =
     turn_end (header_at a.t140 a.tags) (a.t140 ∷ []) a.count a.to.now l.to l.i l.at l.invariant.1 c.loop-i-test.false in
-    let ends : let a = c.args in c.loop-i.at + 1 ≡ length (headers_for a.t140 a.tags a.count) = let a = c.args in
-    let l = c.loop-i in
+    let ends : l.at + 1 ≡ length (headers_for a.t140 a.tags a.count) =
     begun_end (a.t140 ∷ []) (headers_for a.t140 a.tags a.count) a.to.now l.to l.at left c.requires.2 in
     omega (arith, room, ends)
 
 pub returns : goal.returns
 returns c =
-    let left : let a = c.args in
-    Begun (a.t140 ∷ []) (headers_for a.t140 a.tags a.count) a.to.now c.loop-i.to c.loop-i.at = let a = c.args in
+    let a = c.args in
     let l = c.loop-i in
+    let left : Begun (a.t140 ∷ []) (headers_for a.t140 a.tags a.count) a.to.now l.to l.at =
     turn_end (header_at a.t140 a.tags) (a.t140 ∷ []) a.count a.to.now l.to l.i l.at l.invariant.1 c.loop-i-test.false in
-    let whole : let a = c.args in
-    set c.loop-i.to c.loop-i.at a.t140 ≡ over (headers_for a.t140 a.tags a.count) a.to.now = let a = c.args in
-    let l = c.loop-i in
+    let whole : set l.to l.at a.t140 ≡ over (headers_for a.t140 a.tags a.count) a.to.now =
     begun_store (a.t140 ∷ []) (headers_for a.t140 a.tags a.count) a.to.now l.to l.at left c.requires.2 a.t140 refl in
     whole

@@ -26,64 +26,53 @@ bounds-tags-i c = search rules
 
 pub put_text-at-requires : goal.put_text-at-requires
 put_text-at-requires c =
-    let room : length c.loop-i.to ≡ length c.args.to.now = let a = c.args in
+    let a = c.args in
     let l = c.loop-i in
+    let i = l.i in
+    let room : length l.to ≡ length a.to.now =
     turn_room (text_at a.texts.now a.room a.tags) (waiting_at a.texts.now a.room a.len) a.count a.to.now l.to l.i l.at l.invariant.1 c.requires.2 in
-    let text : let a = c.args in let i = c.loop-i.i in
-    slot_text a.texts.now (slot_of a.room i) (get_or a.tags (i - 1) 0 % 256) ≡ text_at c.args.texts.now c.args.room c.args.tags (c.loop-i.i - 1) = let a = c.args in
-    let i = c.loop-i.i in
+    let text : slot_text a.texts.now (slot_of a.room i) (get_or a.tags (i - 1) 0 % 256) ≡ text_at a.texts.now a.room a.tags (l.i - 1) =
     let e : i ≡ suc (i - 1) = omega (arith, c.loop-i-test.true) in
     ap (λ (back : ℕ). slot_text a.texts.now (slot_of a.room back) (get_or a.tags (i - 1) 0 % 256)) e in
-    let below : c.loop-i.i - 1 < c.args.count = let l = c.loop-i in
-    tag_below c.args.tags c.args.count c.requires.3 (l.i - 1) (omega (arith, l.invariant.0, c.loop-i-test.true)) c.if-tag-gt0.true in
-    let fits : let l = c.loop-i in l.at + length (text_at c.args.texts.now c.args.room c.args.tags (c.loop-i.i - 1)) ≤ length l.to = let a = c.args in
-    let l = c.loop-i in
+    let below : l.i - 1 < a.count =
+    tag_below a.tags a.count c.requires.3 (l.i - 1) (omega (arith, l.invariant.0, c.loop-i-test.true)) c.if-tag-gt0.true in
+    let fits : l.at + length (text_at a.texts.now a.room a.tags (l.i - 1)) ≤ length l.to =
     omega (arith, room, turn_fits (text_at a.texts.now a.room a.tags) (waiting_at a.texts.now a.room a.len) a.count a.to.now l.to l.i l.at l.invariant.1 c.requires.2 c.loop-i-test.true below) in
-    let l = c.loop-i in
-    (c.requires.0, omega arith, rw text (lent_fits l.at (length (text_at c.args.texts.now c.args.room c.args.tags (c.loop-i.i - 1))) l.to fits))
+    (c.requires.0, omega arith, rw text (lent_fits l.at (length (text_at a.texts.now a.room a.tags (l.i - 1))) l.to fits))
 
 pub loop-i-preserved-then-tag-gt0 : goal.loop-i-preserved-then-tag-gt0
 loop-i-preserved-then-tag-gt0 c =
-    let text : let a = c.args in let i = c.loop-i.i in
-    slot_text a.texts.now (slot_of a.room i) (get_or a.tags (i - 1) 0 % 256) ≡ text_at c.args.texts.now c.args.room c.args.tags (c.loop-i.i - 1) = let a = c.args in
-    let i = c.loop-i.i in
-    let e : i ≡ suc (i - 1) = omega (arith, c.loop-i-test.true) in
-    ap (λ (back : ℕ). slot_text a.texts.now (slot_of a.room back) (get_or a.tags (i - 1) 0 % 256)) e in
-    let below : c.loop-i.i - 1 < c.args.count = let l = c.loop-i in
-    tag_below c.args.tags c.args.count c.requires.3 (l.i - 1) (omega (arith, l.invariant.0, c.loop-i-test.true)) c.if-tag-gt0.true in
-    let q = c.put_text-at in
     let a = c.args in
     let l = c.loop-i in
-    let e : q.result ≡ length (text_at c.args.texts.now c.args.room c.args.tags (c.loop-i.i - 1)) = q.ensures.0 ∙ ap length text in
+    let i = l.i in
+    let q = c.put_text-at in
+    let text : slot_text a.texts.now (slot_of a.room i) (get_or a.tags (i - 1) 0 % 256) ≡ text_at a.texts.now a.room a.tags (l.i - 1) =
+    let e : i ≡ suc (i - 1) = omega (arith, c.loop-i-test.true) in
+    ap (λ (back : ℕ). slot_text a.texts.now (slot_of a.room back) (get_or a.tags (i - 1) 0 % 256)) e in
+    let below : l.i - 1 < a.count =
+    tag_below a.tags a.count c.requires.3 (l.i - 1) (omega (arith, l.invariant.0, c.loop-i-test.true)) c.if-tag-gt0.true in
+    let e : q.result ≡ length (text_at a.texts.now a.room a.tags (l.i - 1)) = q.ensures.0 ∙ ap length text in
     let w = q.ensures.1 ∙ ap (λ (x : List ℕ). over x (mid_of l.at (length l.to - l.at) l.to)) text in
     (omega arith, rw e (turn_next (text_at a.texts.now a.room a.tags) (waiting_at a.texts.now a.room a.len) a.count a.to.now l.to l.i l.at l.invariant.1 c.requires.2 c.loop-i-test.true below q.new.to w))
 
 pub put_text-requires : goal.put_text-requires
 put_text-requires c =
-    let room : length c.loop-i.to ≡ length c.args.to.now = let a = c.args in
-    let l = c.loop-i in
-    turn_room (text_at a.texts.now a.room a.tags) (waiting_at a.texts.now a.room a.len) a.count a.to.now l.to l.i l.at l.invariant.1 c.requires.2 in
-    let left : let a = c.args in
-    Begun (waiting_at a.texts.now a.room a.len) (texts_of a.texts.now a.room a.tags a.len a.count) a.to.now c.loop-i.to c.loop-i.at = let a = c.args in
-    let l = c.loop-i in
-    turn_end (text_at a.texts.now a.room a.tags) (waiting_at a.texts.now a.room a.len) a.count a.to.now l.to l.i l.at l.invariant.1 c.loop-i-test.false in
-    let ends : let a = c.args in let l = c.loop-i in
-    l.at + length (waiting_at a.texts.now a.room a.len) ≤ length l.to = let a = c.args in
-    let l = c.loop-i in
-    omega (arith, room, begun_end (waiting_at a.texts.now a.room a.len) (texts_of a.texts.now a.room a.tags a.len a.count) a.to.now l.to l.at left c.requires.2, c.requires.2) in
     let a = c.args in
     let l = c.loop-i in
+    let room : length l.to ≡ length a.to.now =
+    turn_room (text_at a.texts.now a.room a.tags) (waiting_at a.texts.now a.room a.len) a.count a.to.now l.to l.i l.at l.invariant.1 c.requires.2 in
+    let left : Begun (waiting_at a.texts.now a.room a.len) (texts_of a.texts.now a.room a.tags a.len a.count) a.to.now l.to l.at =
+    turn_end (text_at a.texts.now a.room a.tags) (waiting_at a.texts.now a.room a.len) a.count a.to.now l.to l.i l.at l.invariant.1 c.loop-i-test.false in
+    let ends : l.at + length (waiting_at a.texts.now a.room a.len) ≤ length l.to =
+    omega (arith, room, begun_end (waiting_at a.texts.now a.room a.len) (texts_of a.texts.now a.room a.tags a.len a.count) a.to.now l.to l.at left c.requires.2, c.requires.2) in
     (c.requires.0, omega arith, lent_fits l.at (length (waiting_at a.texts.now a.room a.len)) l.to ends)
 
 pub returns : goal.returns
 returns c =
-    let left : let a = c.args in
-    Begun (waiting_at a.texts.now a.room a.len) (texts_of a.texts.now a.room a.tags a.len a.count) a.to.now c.loop-i.to c.loop-i.at = let a = c.args in
+    let a = c.args in
     let l = c.loop-i in
+    let left : Begun (waiting_at a.texts.now a.room a.len) (texts_of a.texts.now a.room a.tags a.len a.count) a.to.now l.to l.at =
     turn_end (text_at a.texts.now a.room a.tags) (waiting_at a.texts.now a.room a.len) a.count a.to.now l.to l.i l.at l.invariant.1 c.loop-i-test.false in
-    let whole : (part : List ℕ) → let a = c.args in let l = c.loop-i in
-    part ≡ over (waiting_at a.texts.now a.room a.len) (mid_of l.at (length l.to - l.at) l.to)
-    → put_mid l.at (length l.to - l.at) l.to part ≡ over (texts_of a.texts.now a.room a.tags a.len a.count) a.to.now = λ part e. let a = c.args in
-    let l = c.loop-i in
-    begun_last (waiting_at a.texts.now a.room a.len) (texts_of a.texts.now a.room a.tags a.len a.count) a.to.now l.to l.at left c.requires.2 part e in
+    let whole : (part : List ℕ) → part ≡ over (waiting_at a.texts.now a.room a.len) (mid_of l.at (length l.to - l.at) l.to)
+    → put_mid l.at (length l.to - l.at) l.to part ≡ over (texts_of a.texts.now a.room a.tags a.len a.count) a.to.now = λ part e. begun_last (waiting_at a.texts.now a.room a.len) (texts_of a.texts.now a.room a.tags a.len a.count) a.to.now l.to l.at left c.requires.2 part e in
     whole c.put_text.new.to c.put_text.ensures.1
