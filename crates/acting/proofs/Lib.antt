@@ -1,2 +1,1 @@
 pub mod ByPart
-pub mod Stepping

@@ -11,7 +11,8 @@ use due::Due;
 use parts::Part;
 use receiver::Receiver;
 
-// The receiver and the counts from there on, and what is due.
+// The receiver and the counts from there on, and what is due. Before a journal's open the receiver is all zeros, and refuses every
+// packet.
 #[derive(Clone, Copy)]
 pub struct Acted {
     pub receiver: Receiver,
@@ -22,28 +23,22 @@ pub struct Acted {
 fn open(counts: Counts, t140: u8, red: u8) -> Acted
     ensures { OpensReceiver counts t140 red result }
 {
-    let opening = Receiver::open(t140, red);
-    let receiver = opening.receiver;
     Acted {
-        receiver,
+        receiver: Receiver::open(t140, red).unwrap_or_default(),
         counts,
         due: Due::none(),
     }
 }
 
 // A packet is whole: the receiver's step answers, and the marks and the text of the answer are due.
-fn step(receiver: Receiver, counts: Counts, packet: &[u8]) -> Acted
+fn step(mut receiver: Receiver, counts: Counts, packet: &[u8]) -> Acted
     ensures { Steps receiver counts packet.now result }
 {
-    let advanced = receiver.advance(packet);
-    let after = advanced.receiver;
-    let answer = advanced.answer;
-    let more = counts.with(answer);
-    let due = Due::of(answer);
+    let answer = receiver.step_in_place(packet);
     Acted {
-        receiver: after,
-        counts: more,
-        due,
+        receiver,
+        counts: counts.with(answer),
+        due: Due::of(answer),
     }
 }
 
@@ -51,8 +46,7 @@ fn step(receiver: Receiver, counts: Counts, packet: &[u8]) -> Acted
 pub fn break_off(packet: &mut [u8]) -> Due
     ensures { PutsLine broken_line packet.old result packet.new }
 {
-    let to = closing::put_broken(packet);
-    Due::line(to)
+    Due::line(closing::put_broken(packet))
 }
 
 // The line of counts is due.
@@ -77,22 +71,16 @@ pub fn act(part: Part, size: usize, receiver: Receiver, counts: Counts, packet: 
     match part {
         Part::Packet => step(receiver, counts, packet::part(packet, 0, size)),
         Part::Opened(t140, red) => open(counts, t140, red),
-        Part::Ended => {
-            let due = finish(counts, packet);
-            Acted {
-                receiver,
-                counts,
-                due,
-            }
-        }
-        Part::Broken => {
-            let due = break_off(packet);
-            Acted {
-                receiver,
-                counts,
-                due,
-            }
-        }
+        Part::Ended => Acted {
+            receiver,
+            counts,
+            due: finish(counts, packet),
+        },
+        Part::Broken => Acted {
+            receiver,
+            counts,
+            due: break_off(packet),
+        },
         _ => Acted {
             receiver,
             counts,

@@ -8,13 +8,13 @@ use lib.Dec.{ltb}
 use lib.ListN.{length, drop, length-drop}
 use lib.Seq.{slice, length-slice}
 use borrow.Author.Tests.{ltb-false}
-use Rattle.packet.specs.declared.Outcome.TheVariants.{Accepted, Refused}
+use Rattle.std.specs.Prelude.{Ok, Err}
 use Rattle.packet.specs.declared.Refusal.{Refusal}
 use Rattle.block_headers.specs.declared.Headers.{Headers}
 use Rattle.packet_spec.specs.Limits.{level}
 use Rattle.packet_spec.specs.Redundancy.{Heads, heads, bad, headers, total, ages_fall}
 use Rattle.packet_spec.specs.Internal.Heads.{heads_in}
-use Rattle.packet.specs.Refusal.{number, outcome_number}
+use Rattle.packet.specs.Refusal.{number}
 use Rattle.block_headers.specs.Internal.Seen.{HeadersSeen, headers_seen, seen_before, heads_within, headers_of}
 use Rattle.base.proofs.Slices.{slice_end}
 use Rattle.base.proofs.Tests.{by_test, or_left, or_right}
@@ -58,36 +58,35 @@ module _ (plain : Bool) (t140 : ℕ) (p : List ℕ) (from end : ℕ) where
       by_test (Lie p from end) (ltb end from || ltb (length p) end) {x = bad 17} (λ _. omega arith)
       (λ e. lie_behind p from end (ltb-false end from (or_left _ _ e)) (ltb-false (length p) end (or_right (ltb end from) _ e)) (cond plain (heads [] m) (headers t140 level [] m)) (heads_positive level t140 plain m) (heads_behind level t140 plain m))
 
-  module _ (r : Headers) (told : headers_seen r ≡ headers_of plain t140 p from end) where
-    pub refused_told : (k : Refusal) → r.outcome ≡ Refused k → heads_within plain t140 p from end ≡ bad (number k)
-    unfolding headers_of
-    refused_told k o = go (heads_within plain t140 p from end) told
-      where
-        go : (x : Heads) → headers_seen r ≡ seen_before end x → x ≡ bad (number k)
-        go (bad n) e = ap bad (sym (ap (λ (y : HeadersSeen). y.number) e) ∙ ap outcome_number o)
-        go (heads hs s) e =
-            let z : 0 ≡ number k = sym (ap (λ (y : HeadersSeen). y.number) e) ∙ ap outcome_number o in
-            absurd (omega (arith, number_positive k))
+  pub refused_told : (k : Refusal) → headers_seen (Err k) ≡ headers_of plain t140 p from end → heads_within plain t140 p from end ≡ bad (number k)
+  unfolding headers_of
+  refused_told k told = go (heads_within plain t140 p from end) told
+    where
+      go : (x : Heads) → headers_seen (Err k) ≡ seen_before end x → x ≡ bad (number k)
+      go (bad n) e = ap bad (sym (ap (λ (y : HeadersSeen). y.number) e))
+      go (heads hs s) e =
+          let z : number k ≡ 0 = ap (λ (y : HeadersSeen). y.number) e in
+          absurd (omega (arith, number_positive k))
 
-    pub accepted_told : r.outcome ≡ Accepted → Told p from end (heads_within plain t140 p from end) r
-    unfolding headers_of
-    accepted_told o = go (heads_within plain t140 p from end) lie told
-      where
-        go : (x : Heads) → Lie p from end x → headers_seen r ≡ seen_before end x → Told p from end x r
-        go (bad n) l e =
-            let z : n ≡ 0 = sym (ap (λ (y : HeadersSeen). y.number) e) ∙ ap outcome_number o in
-            absurd (omega arith)
-        go (heads hs s) l e =
-            let n : r.count ≡ length hs = ap (λ (y : HeadersSeen). y.count) e in
-            let f : r.first ≡ end - length s = ap (λ (y : HeadersSeen). y.first) e in
-            let a : heads_in r.count (drop from p) ≡ hs = ap (λ (k : ℕ). heads_in k (drop from p)) n ∙ sym l.0 in
-            let b : slice r.first end p ≡ s = ap (λ (j : ℕ). slice j end p) f ∙ l.2 in
-            let q : from + 4 * length hs ≤ end - length s = l.3 in
-            record {
-              are = λ i. heads (sym a i) (sym b i);
-              room = omega arith;
-              ahead = omega arith;
-              within = l.1;
-              bytes = ap (λ (y : HeadersSeen). y.primary) e ∙ (λ i. sym f i + total (sym a i));
-              fall = ap (λ (y : HeadersSeen). y.fall) e ∙ ap ages_fall (sym a);
-            }
+  pub accepted_told : (h : Headers) → headers_seen (Ok h) ≡ headers_of plain t140 p from end → Told p from end (heads_within plain t140 p from end) h
+  unfolding headers_of
+  accepted_told h told = go (heads_within plain t140 p from end) lie told
+    where
+      go : (x : Heads) → Lie p from end x → headers_seen (Ok h) ≡ seen_before end x → Told p from end x h
+      go (bad n) l e =
+          let z : 0 ≡ n = ap (λ (y : HeadersSeen). y.number) e in
+          absurd (omega arith)
+      go (heads hs s) l e =
+          let n : h.count ≡ length hs = ap (λ (y : HeadersSeen). y.count) e in
+          let f : h.first ≡ end - length s = ap (λ (y : HeadersSeen). y.first) e in
+          let a : heads_in h.count (drop from p) ≡ hs = ap (λ (k : ℕ). heads_in k (drop from p)) n ∙ sym l.0 in
+          let b : slice h.first end p ≡ s = ap (λ (j : ℕ). slice j end p) f ∙ l.2 in
+          let q : from + 4 * length hs ≤ end - length s = l.3 in
+          record {
+            are = λ i. heads (sym a i) (sym b i);
+            room = omega arith;
+            ahead = omega arith;
+            within = l.1;
+            bytes = ap (λ (y : HeadersSeen). y.primary) e ∙ (λ i. sym f i + total (sym a i));
+            fall = ap (λ (y : HeadersSeen). y.fall) e ∙ ap ages_fall (sym a);
+          }

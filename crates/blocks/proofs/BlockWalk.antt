@@ -1,56 +1,71 @@
--- The walk over blocks: where the next one lies, and what is left behind it.
-use Prim.Native.Nat.{ℕ, ◌+◌, ◌<◌, ◌≤◌}
-use mathlib.Core.Path.{◌≡◌, ◌∙◌, ap, sym}
+-- The walk over blocks: an older block and what is left after it, and the primary.
+use Prim.Native.Nat.{ℕ, ◌+◌, ◌*◌, ◌-◌, ◌<◌, ◌≤◌}
+use mathlib.Core.Path.{◌≡◌, ◌∙◌, refl, ap, sym}
 use mathlib.Core.List.{List, [], ◌∷◌}
-use mathlib.Core.Bool.{Bool, true, cond, ◌&&◌}
+use mathlib.Core.Bool.{Bool, true, ◌&&◌}
 use native.Mathlib.Numerals.{add-one}
 use native.Mathlib.Omega.{arith}
-use lib.Dec.{ltb}
-use lib.ListN.{length, get_or, drop}
-use lib.Seq.{slice, drop-cons, drop-length}
-use borrow.Author.Tests.{lt-ltb, le-ltb}
-use Rattle.packet_spec.specs.Redundancy.{Head, total, are_text}
+use lib.ListN.{length, take, drop, drop_of_length-le}
+use lib.Seq.{slice, drop-cons}
 use Rattle.text_spec.specs.Utf8.{is_text}
-use Rattle.block_headers.specs.Headers.{no_head}
+use Rattle.packet_spec.specs.Redundancy.{Head, total, are_text}
+use Rattle.packet_spec.specs.Internal.Heads.{heads_in}
+use Rattle.packet_spec.proofs.HeadsIn.{heads_length}
 use Rattle.packet_spec.proofs.TextBlocks.{text_first}
-use Rattle.base.proofs.Slices.{take_slice, drop_slice}
+use Rattle.block_headers.specs.Headers.{no_head, head_at}
+use Rattle.block_headers.proofs.HeadPlaces.{head_at_is}
+use Rattle.base.proofs.Slices.{mid_slice, take_slice, drop_slice}
 
--- what is left to check behind block k, which ends at a place
-abbrev pub behind : List ℕ → List Head → ℕ → ℕ → ℕ → ℕ → Bool
-behind p hs count end k to = cond (ltb k count) (are_text (drop (k + 1) hs) (slice to end p)) true
-
--- block k lies from at to to, within end; what is left to check is it and what lies behind it
+-- block k lies from at to to, within end; what is left to check is it and what lies after it
 pub record Here (p : List ℕ) (hs : List Head) (count end k at to : ℕ) : Type 0 where
   pub ahead : at ≤ to
-  pub inside : to ≤ end
-  pub room : k < count → to + total (drop (k + 1) hs) ≤ end
-  pub text : are_text (drop k hs) (slice at end p) ≡ (is_text (slice at to p) && behind p hs count end k to)
+  pub fits : to + total (drop (k + 1) hs) ≤ end
+  pub last : count ≤ k → to ≡ end
+  pub text : (text : Bool) → text ≡ is_text (take (to - at) (drop at p)) → are_text (drop k hs) (slice at end p) ≡ (text && are_text (drop (k + 1) hs) (slice to end p))
 
-module _ (p : List ℕ) (hs : List Head) (count end k at to : ℕ) (many : length hs ≡ count)
-    (fit : at + total (drop k hs) ≤ end) where
-  pub older_here : k < count → to ≡ at + (get_or hs k no_head).len → Here p hs count end k at to
-  older_here h e =
-      let h₀ = get_or hs k no_head in
-      let rest = drop (k + 1) hs in
-      let c : drop k hs ≡ h₀ ∷ rest = drop-cons hs k no_head (omega arith) ∙ ap (λ (n : ℕ). h₀ ∷ drop n hs) (sym (add-one k)) in
-      let t : total (drop k hs) ≡ h₀.len + total rest = ap total c in
-      let i : at + h₀.len ≤ end = omega arith in
-      record {
-        ahead = omega arith;
-        inside = omega arith;
-        room = λ _. omega arith;
-        text = rw (e, lt-ltb k count h)
-            (ap (λ (l : List Head). are_text l (slice at end p)) c ∙ text_first h₀ rest (slice at end p)
-            ∙ rw (take_slice at end p h₀.len i, drop_slice at end p h₀.len));
-      }
+-- the older block whose header is at hand
+module _ (p : List ℕ) (from count end k at : ℕ) (h : k < count) (inside : from + 4 * count ≤ length p) (fit : at + total (drop k (heads_in count (drop from p))) ≤ end)
+    (head : Head) (e : head ≡ head_at p (from + 4 * k)) (to : ℕ) (ends : to ≡ at + head.len) where
+  headed : drop k (heads_in count (drop from p)) ≡ head ∷ drop (k + 1) (heads_in count (drop from p))
+  headed =
+      let hs = heads_in count (drop from p) in
+      drop-cons hs k no_head (omega (arith, heads_length count (drop from p)))
+      ∙ rw (add-one k, e, head_at_is p from count k h inside)
 
-  pub primary_here : k ≤ count → count ≤ k → to ≡ end → Here p hs count end k at to
-  primary_here g h e =
-      let n : k ≡ length hs = omega arith in
-      let c : drop k hs ≡ [] = ap (λ (m : ℕ). drop m hs) n ∙ drop-length hs in
-      record {
-        ahead = omega arith;
-        inside = omega arith;
-        room = λ l. omega arith;
-        text = rw (e, le-ltb k count h) (ap (λ (l : List Head). are_text l (slice at end p)) c);
-      }
+  older_fits : to + total (drop (k + 1) (heads_in count (drop from p))) ≤ end
+  older_fits = omega (arith, ap total headed)
+
+  older_text : (text : Bool) → text ≡ is_text (take (to - at) (drop at p))
+      → are_text (drop k (heads_in count (drop from p))) (slice at end p)
+      ≡ (text && are_text (drop (k + 1) (heads_in count (drop from p))) (slice to end p))
+  older_text text f =
+      ap (λ (l : List Head). are_text l (slice at end p)) headed
+      ∙ text_first head (drop (k + 1) (heads_in count (drop from p))) (slice at end p)
+      ∙ rw (f, mid_slice at to p (omega arith), ends, take_slice at end p head.len (omega (arith, older_fits)), drop_slice at end p head.len)
+
+  pub older_here : Here p (heads_in count (drop from p)) count end k at to
+  older_here = record { ahead = omega arith; fits = older_fits; last = λ n. absurd (omega arith); text = older_text }
+
+slice_none : (p : List ℕ) (end : ℕ) → slice end end p ≡ []
+slice_none p end =
+    let e : end - end ≡ 0 = omega arith in
+    sym (mid_slice end end p (omega arith)) ∙ ap (λ (k : ℕ). take k (drop end p)) e
+
+-- the primary, after which nothing is left
+pub primary_here : (p s : List ℕ) (count end k at : ℕ) → count ≤ k → at ≤ end → Here p (heads_in count s) count end k at end
+primary_here p s count end k at h a =
+    let hs = heads_in count s in
+    let last : drop k hs ≡ [] = drop_of_length-le hs (omega (arith, heads_length count s)) in
+    let none : drop (k + 1) hs ≡ [] = drop_of_length-le hs (omega (arith, heads_length count s)) in
+    record {
+      ahead = a;
+      fits = omega (arith, ap total none);
+      last = λ _. refl;
+      text = λ text e. rw (last, none, slice_none p end, e, mid_slice at end p a) refl;
+    }
+
+-- after the primary nothing is left, which is text
+pub none_left : (p s : List ℕ) (count end k at : ℕ) → count + 1 ≤ k → at ≡ end → are_text (drop k (heads_in count s)) (slice at end p) ≡ true
+none_left p s count end k at h e =
+    let none : drop k (heads_in count s) ≡ [] = drop_of_length-le (heads_in count s) (omega (arith, heads_length count s)) in
+    rw (none, e, slice_none p end) refl

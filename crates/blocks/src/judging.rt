@@ -4,74 +4,60 @@ ghost use Rattle.std.proofs.Math.Seq.{slice};
 ghost use Rattle.packet_spec.specs.Redundancy.{total, are_text};
 ghost use Rattle.packet_spec.specs.Internal.Heads.{heads_in};
 
-use packet::{Outcome, Refusal};
-use text::Walked;
+use packet::Refusal;
+use text::Owed;
 
-// Refused where a block is not text. A long payload of ASCII alone is text wherever its blocks part.
-pub fn judge_text(packet: &[u8], from: usize, first: usize, count: usize, end: usize) -> Outcome
+// Refused where a block is not text; the first bad byte ends both walks. The older blocks lie together from `first` on, then the
+// primary up to `end`. A long payload of ASCII alone is text wherever its blocks part. Most blocks are short, so they are walked a
+// byte at a time; a test for ASCII before the full step, `lead` where no letter has begun, and no call for each block: measured,
+// each is faster.
+pub fn judge_text(
+    packet: &[u8],
+    from: usize,
+    first: usize,
+    count: usize,
+    end: usize,
+) -> Result<(), Refusal>
     requires { (from + 4 * count ≤ first) × (first + total (heads_in count (drop from packet.now)) ≤ end) × (end ≤ length packet.now) }
-    ensures { result ≡ cond (are_text (heads_in count (drop from packet.now)) (slice first end packet.now)) Outcome.Accepted (Outcome.Refused Refusal.BlockText) }
+    ensures { result ≡ cond (are_text (heads_in count (drop from packet.now)) (slice first end packet.now)) (Ok tt) (Err Refusal.BlockText) }
 {
-    let len = end - first;
-    if 64 <= len {
-        let run = text::ascii_end(&packet[first..end]);
-        if run == len {
-            return Outcome::Accepted;
-        }
+    let payload = &packet[first..end];
+    if 64 <= payload.len() && text::ascii_end(payload) == payload.len() {
+        return Ok(());
     }
-    check(packet, from, first, count, end)
-}
-
-// Refused where a block is not text. The older blocks lie together from `first` on, then the primary up to `end`.
-fn check(packet: &[u8], from: usize, first: usize, count: usize, end: usize) -> Outcome
-    requires { (from + 4 * count ≤ first) × (first + total (heads_in count (drop from packet.now)) ≤ end) × (end ≤ length packet.now) }
-    ensures { result ≡ cond (are_text (heads_in count (drop from packet.now)) (slice first end packet.now)) Outcome.Accepted (Outcome.Refused Refusal.BlockText) }
-{
-    let mut outcome = Outcome::Accepted;
+    let mut outcome = Ok(());
     let mut at = first;
-    let mut k: usize = 0;
-    'blocks: loop {
+    'walk: for k in 0..count + 1 {
         let mut to = end;
         if k < count {
             let head = block_headers::head_at(packet, from + 4 * k);
-            to = at + head.len as usize;
+            to = at + usize::from(head.len);
         }
-        let mut owed = text::fresh();
-        let mut i = at;
-        while i < to {
-            let byte = packet[i];
-            let tails = owed.tails;
-            if tails == 0 {
-                if 0x80 <= byte {
-                    match text::lead(byte) {
-                        Walked::Next(next) => owed = next,
-                        Walked::Bad => {
-                            outcome = Outcome::Refused(Refusal::BlockText);
-                            break 'blocks;
-                        }
-                    }
+        let block = &packet[at..to];
+        let mut owed = Owed::fresh();
+        for byte in block {
+            if owed.tails == 0 {
+                if byte.is_ascii() {
+                    continue;
                 }
+                let Some(next) = text::lead(*byte) else {
+                    outcome = Err(Refusal::BlockText);
+                    break 'walk;
+                };
+                owed = next;
             } else {
-                match text::step(owed, byte) {
-                    Walked::Next(next) => owed = next,
-                    Walked::Bad => {
-                        outcome = Outcome::Refused(Refusal::BlockText);
-                        break 'blocks;
-                    }
-                }
+                let Some(next) = owed.step(*byte) else {
+                    outcome = Err(Refusal::BlockText);
+                    break 'walk;
+                };
+                owed = next;
             }
-            i += 1;
         }
-        let tails = owed.tails;
-        if tails != 0 {
-            outcome = Outcome::Refused(Refusal::BlockText);
-            break 'blocks;
-        }
-        if k == count {
-            break 'blocks;
+        if owed.tails != 0 {
+            outcome = Err(Refusal::BlockText);
+            break 'walk;
         }
         at = to;
-        k += 1;
     }
     outcome
 }

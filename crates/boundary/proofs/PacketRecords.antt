@@ -2,22 +2,20 @@
 use Prim.Native.Nat.{ℕ, zero, suc, ◌+◌, ◌-◌, ◌*◌, ◌<◌, ◌≤◌}
 use mathlib.Core.Path.{◌≡◌, ◌∙◌, refl, ap, sym}
 use mathlib.Core.List.{List, [], ◌∷◌, ◌++◌}
-use mathlib.Core.Bool.{not}
 use native.Mathlib.Omega.{arith}
-use lib.Dec.{T as Holds}
 use lib.ListN.{length, take, drop, length-drop}
 use lib.Seq.{length-take-le}
 use borrow.Author.Tests.{lt-ltb, le-ltb}
-use Rattle.packet.specs.declared.Outcome.{Outcome}
-use Rattle.packet.specs.declared.Outcome.TheVariants.{Accepted, Refused}
-use Rattle.packet.specs.declared.Reading.{Reading}
+use Rattle.std.specs.Prelude.{Ok, Err}
+use Rattle.packet.specs.declared.Packet.{Packet}
+use Rattle.packet.specs.declared.Refusal.{Refusal}
 use Rattle.base.specs.Arrays.{filled}
 use Rattle.packet_spec.specs.Limits.{level}
 use Rattle.packet_spec.specs.Header.{Expected, header_end, payload_end}
 use Rattle.packet_spec.specs.Redundancy.{Head, total, older_of}
 use Rattle.packet_spec.specs.Internal.Heads.{heads_in}
 use Rattle.packet_spec.specs.Reading.{Content, reading, starts_at}
-use Rattle.packet.specs.Refusal.{outcome_number, is_refused}
+use Rattle.packet.specs.Refusal.{number}
 use Rattle.packet.specs.Places.{numbered, placed, read_of}
 use Rattle.boundary.specs.declared.packets.Older.{Older}
 use Rattle.boundary.specs.declared.packets.PacketRecord.{PacketRecord}
@@ -29,7 +27,7 @@ use Rattle.packet_spec.proofs.BlocksLie.{Lies, lies, few}
 use Rattle.packet_spec.proofs.HeadersTell.{Headed, headed}
 use Rattle.reader.proofs.AnswerToReading.{was_refused_lem, was_accepted}
 
--- one more block behind the others
+-- one more block after the others
 pub places_snoc : (at : ℕ) (hs : List Head) (h : Head)
     → head_places at (hs ++ (h ∷ [])) ≡ head_places at hs ++ (record { offset = h.offset; at = at + total hs; len = h.len } ∷ [])
 places_snoc at [] h = let e : at ≡ at + 0 = omega arith in ap (λ (n : ℕ). record { offset = h.offset; at = n; len = h.len } ∷ []) e
@@ -100,30 +98,22 @@ module _ (p : List ℕ) (c : Content) (l : Lies p c) (t : Headed p c) (small : l
       }) older
 
 -- what the exported reader says of its number and of the record lent to it
-module _ (e : Expected) (t140 red : ℕ) (p : List ℕ) (x : Reading) (is : numbered x ≡ read_of e t140 red p) (before : PacketRecord) where
+module _ (e : Expected) (t140 red : ℕ) (p : List ℕ) (before : PacketRecord) where
   abbrev pub Leaves : ℕ → PacketRecord → Type 0
   Leaves k after = (k ≡ read_number (reading level e t140 red p)) × (after ≡ packet_behind p (reading level e t140 red p) before)
 
-  pub leaves_refused : Holds (is_refused x.outcome) → Leaves (outcome_number x.outcome) before
+  pub leaves_refused : (k : Refusal) → numbered (Err k) ≡ read_of e t140 red p → Leaves (number k) before
   unfolding read_of
-  leaves_refused = go x.outcome refl
-    where
-      go : (o : Outcome) → x.outcome ≡ o → Holds (is_refused o) → Leaves (outcome_number x.outcome) before
-      go Accepted q h = absurd h
-      go (Refused k) q h =
-          let r = was_refused_lem p x k (reading level e t140 red p) q is in
-          (ap outcome_number q ∙ sym (ap read_number r), sym (ap (λ y. packet_behind p y before) r))
+  leaves_refused k is =
+      let r = was_refused_lem p k (reading level e t140 red p) is in
+      (sym (ap read_number r), sym (ap (λ y. packet_behind p y before) r))
 
-  pub leaves_accepted : Holds (not (is_refused x.outcome)) → Leaves (outcome_number x.outcome) (record_from p x.packet)
+  pub leaves_accepted : (x : Packet) → numbered (Ok x) ≡ read_of e t140 red p → Leaves 0 (record_from p x)
   unfolding read_of
-  leaves_accepted = go x.outcome refl
-    where
-      go : (o : Outcome) → x.outcome ≡ o → Holds (not (is_refused o)) → Leaves (outcome_number x.outcome) (record_from p x.packet)
-      go (Refused k) q h = absurd h
-      go Accepted q h =
-          let r = was_accepted p x (reading level e t140 red p) (reading_positive level e t140 red p) q is in
-          let c = r.0 in (
-            ap outcome_number q ∙ sym (ap read_number r.1),
-            ap (record_from p) r.2 ∙ record_is p c (lies level e t140 red p c r.1) (headed level e t140 red p c r.1) (few level e t140 red p c r.1)
-                ∙ sym (ap (λ y. packet_behind p y before) r.1),
-          )
+  leaves_accepted x is =
+      let r = was_accepted p x (reading level e t140 red p) (reading_positive level e t140 red p) is in
+      let c = r.0 in (
+        sym (ap read_number r.1),
+        ap (record_from p) r.2 ∙ record_is p c (lies level e t140 red p c r.1) (headed level e t140 red p c r.1) (few level e t140 red p c r.1)
+            ∙ sym (ap (λ y. packet_behind p y before) r.1),
+      )

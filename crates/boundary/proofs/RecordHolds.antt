@@ -1,4 +1,4 @@
--- The record behind a call holds the receiver of the definition's step.
+-- The record after a call holds the receiver of the definition's step.
 use Prim.Native.Nat.{ℕ}
 use mathlib.Core.Path.{◌≡◌, refl}
 use mathlib.Core.List.{List}

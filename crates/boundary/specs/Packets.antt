@@ -12,7 +12,7 @@ use Rattle.packet_spec.specs.Reading.{Content, Read, holds, refused, starts_at}
 abbrev pub none : Older
 none = record { offset = 0; at = 0; len = 0 }
 
--- blocks lie one behind the other
+-- blocks lie one after the other
 abbrev pub places_from : ℕ → List Block → List Older
 places_from at [] = []
 places_from at (b ∷ bs) = record { offset = b.offset; at = at; len = length b.bytes } ∷ places_from (at + length b.bytes) bs

@@ -75,7 +75,7 @@ step_record (is_jump z) = nothing_given jump_course z
 step_record (is_break g) = some_given break_course g
 step_record (gives g) = some_given forward_course g
 
--- the step's record behind a call: as it was, where the packet is refused
+-- the step's record after a call: as it was, where the packet is refused
 abbrev pub step_behind : StepAnswer → Step → Step
 step_behind (refuses n) before = before
 step_behind (is_late z) before = step_record (is_late z)
@@ -90,6 +90,6 @@ record_by (is_jump z) r before = lent_record r
 record_by (is_break g) r before = lent_record r
 record_by (gives g) r before = lent_record r
 
--- the receiver's record behind a call: as it was, where the packet is refused or late
+-- the receiver's record after a call: as it was, where the packet is refused or late
 abbrev pub receiver_behind : Stepping.Step → ReceiverRecord → ReceiverRecord
 receiver_behind s before = record_by s.answer s.receiver before

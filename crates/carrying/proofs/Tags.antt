@@ -1,13 +1,13 @@
 -- The ages and lengths of the blocks, each in one number.
 use Prim.Native.Nat.{ℕ, zero, suc, ◌+◌, ◌-◌, ◌/◌, ◌%◌, ◌≤◌, ◌<◌, min}
 use mathlib.Core.Path.{◌≡◌, ◌∙◌, refl, ap, sym, subst}
-use mathlib.Core.List.{List, [], ◌∷◌, ◌++◌}
+use mathlib.Core.List.{List, [], ◌∷◌}
 use mathlib.Core.Bool.{Bool, true, false}
 use native.Mathlib.Nat.{not-suc-le-zero, le_of_suc-le-suc}
 use native.Mathlib.Omega.{arith}
 use lib.ListN.{length, take, drop, get_or, set, replicate, length-replicate, length-take, get_or-append, get_or-replicate}
 use lib.Dec.{ltb}
-use lib.Seq.{get_or-take, get_or-drop}
+use lib.Seq.{get_or-take, get_or-drop, get_or-append_right}
 use Rattle.base.proofs.Replaced.{replaced_more}
 use borrow.Author.Tests.{leb-true, ltb-true, ltb-false}
 use Rattle.delivery.specs.Run.{oldest_age}
@@ -38,12 +38,6 @@ tag_at t (n ∷ lens) [] i h k = absurd (not-suc-le-zero k)
 tag_at t (n ∷ lens) (at ∷ ats) zero h k = refl
 tag_at t (n ∷ lens) (at ∷ ats) (suc i) h k = tag_at t lens ats i (le_of_suc-le-suc h) (le_of_suc-le-suc k)
 
--- an element of the second of two lists
-behind : (xs ys : List ℕ) (i : ℕ) → length xs ≤ i → get_or (xs ++ ys) i 0 ≡ get_or ys (i - length xs) 0
-behind [] ys i h = let e : i ≡ i - 0 = omega arith in ap (λ (k : ℕ). get_or ys k 0) e
-behind (x ∷ xs) ys zero h = absurd (omega arith)
-behind (x ∷ xs) ys (suc i) h = let e : i - length xs ≡ suc i - suc (length xs) = omega arith in behind xs ys i (omega arith) ∙ ap (λ (k : ℕ). get_or ys k 0) e
-
 module _ (t : ℕ) (lens ats : List ℕ) (l : length lens ≡ level) (a : length ats ≡ level) where
   long : length (tags_of t lens ats) ≡ level
   long = tags_length t lens ats (omega arith) ∙ a
@@ -67,7 +61,7 @@ module _ (t : ℕ) (lens ats : List ℕ) (l : length lens ≡ level) (a : length
     λ g. subst (λ (m : ℕ). 0 < m) (sym (tagged_are n k i g)) (omega arith),
     λ g.
         let z : length (take n (tags_of t lens ats)) ≡ n = omega (arith, long, length-take n (tags_of t lens ats)) in
-        behind (take n (tags_of t lens ats)) (drop n (replicate level 0)) i (omega arith) ∙ ap (λ (m : ℕ). get_or (drop n (replicate level 0)) (i - m) 0) z ∙ past n i g h,
+        get_or-append_right (take n (tags_of t lens ats)) (drop n (replicate level 0)) i 0 (omega arith) ∙ ap (λ (m : ℕ). get_or (drop n (replicate level 0)) (i - m) 0) z ∙ past n i g h,
   )
 
 -- which tag it is

@@ -1,10 +1,10 @@
-// Which of the blocks kept a packet repeats.
+// The blocks kept, and which of them a packet repeats.
 #![tactic(auto)]
 
 ghost use Rattle.std.specs.Prelude.{◌≡◌, ◌*◌, ◌≤◌, take};
 ghost use Rattle.packet_spec.specs.Limits.{level};
 ghost use Rattle.sender_spec.specs.Limits.{room_size};
-ghost use Rattle.carrying.specs.Internal.Young.{young, young_run, text_total, tagged};
+ghost use Rattle.carrying.specs.Internal.Young.{young_run, text_total, tagged, TagFirst};
 
 use packet::Packet;
 
@@ -21,46 +21,51 @@ impl Block {
 }
 
 // How many older blocks a packet carries, the bytes of their texts, and a tag of each: its age and the bytes of its text, in one
-// number above 0. Tags behind the last are 0.
+// number above 0. Tags after the last are 0, and no Option: headers and texts are written from all of them, in loops that are
+// unrolled (docs/DECISIONS.md).
 #[derive(Clone, Copy)]
 pub struct Carried {
     pub count: usize,
     pub text: usize,
     pub tags: [u64; Packet::LEVEL],
+    ghost few: { count ≤ level },
+    ghost little: { text ≤ room_size * level },
+    ghost first: { TagFirst tags count },
 }
 
-fn is_young(clock: u64, at: u64) -> bool
-    ensures { result ≡ young clock at }
-{
-    numbers::passed(clock, at) <= Block::OLDEST
+// The blocks kept, newest first, by their lengths and times; the first `count` count. Two arrays and a number: so they lie in C's
+// record.
+#[repr(C)]
+#[derive(Clone, Copy, Default)]
+pub struct Kept {
+    pub lens: [usize; Packet::LEVEL],
+    pub ats: [u64; Packet::LEVEL],
+    pub count: usize,
 }
 
-// What a packet carries of the first `most` blocks, by their lengths and times, newest first.
-pub fn run(
-    lens: [usize; Packet::LEVEL],
-    ats: [u64; Packet::LEVEL],
-    most: usize,
-    clock: u64,
-) -> Carried
-    ensures { (result.count ≡ young_run clock (take most ats)) × (result.text ≡ text_total (take result.count lens)) × (result.count ≤ level) × (result.text ≤ room_size * level) × (result.tags ≡ tagged clock lens ats result.count) }
-{
-    let mut count = 0;
-    let mut text = 0;
-    let mut tags = [0u64; Packet::LEVEL];
-    while count < Packet::LEVEL {
-        if count == most {
-            return Carried { count, text, tags };
+impl Kept {
+    // What a packet carries of the first `most` blocks.
+    pub fn run(self, most: usize, clock: u64) -> Carried
+        ensures { (result.count ≡ young_run clock (take most self.ats)) × (result.text ≡ text_total (take result.count self.lens)) × (result.count ≤ level) × (result.text ≤ room_size * level) × (result.tags ≡ tagged clock self.lens self.ats result.count) }
+    {
+        let mut count = 0;
+        let mut text = 0;
+        let mut tags = [0; Packet::LEVEL];
+        for i in 0..Packet::LEVEL {
+            // two tests: joined by `||`, both are always made
+            if i == most {
+                break;
+            }
+            let age = clock.saturating_sub(self.ats[i]);
+            if Block::OLDEST < age {
+                break;
+            }
+            let size = self.lens[i].min(Block::ROOM);
+            // `as`: there is no From between usize and u64
+            tags[i] = (16384 + age) * 256 + size as u64;
+            text += size;
+            count += 1;
         }
-        let sent = ats[count];
-        if !is_young(clock, sent) {
-            return Carried { count, text, tags };
-        }
-        let len = lens[count];
-        let size = numbers::least(len, Block::ROOM);
-        let age = numbers::passed(clock, sent);
-        tags[count] = (16384 + age) * 256 + size as u64;
-        text += size;
-        count += 1;
+        Carried { count, text, tags }
     }
-    Carried { count, text, tags }
 }

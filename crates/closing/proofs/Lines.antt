@@ -75,6 +75,12 @@ twenty k n f h = go (leb k 20) refl
         let d : 100000000000000000000 ≤ 10 ^ (k - 1) = b in
         absurd (never n (10 ^ (k - 1)) h a d)
 
+-- the line of counts, run by run
+pub line_runs : (a b c d : ℕ) → ((10 ∷ 112 ∷ 97 ∷ 99 ∷ 107 ∷ 101 ∷ 116 ∷ 115 ∷ 32 ∷ []) ++ decimal a) ++ ((32 ∷ 108 ∷ 97 ∷ 116 ∷ 101 ∷ 32 ∷ []) ++ decimal b)
+    ++ ((32 ∷ 108 ∷ 111 ∷ 115 ∷ 116 ∷ 32 ∷ []) ++ decimal c) ++ ((32 ∷ 114 ∷ 101 ∷ 102 ∷ 117 ∷ 115 ∷ 101 ∷ 100 ∷ 32 ∷ []) ++ decimal d) ++ (10 ∷ []) ≡ counts_line a b c d
+unfolding counts_line
+line_runs a b c d = refl
+
 -- the line of counts, in two halves
 regrouped : (x y z e : List ℕ) → x ++ (y ++ z ++ e) ≡ x ++ y ++ z ++ e
 regrouped x y z e = sym (append_assoc x (y ++ z) e) ∙ ap (λ (l : List ℕ). l ++ e) (sym (append_assoc x y z))

@@ -1,10 +1,6 @@
--- Counts that fit, by plain facts; and that they still fit behind one packet more.
-use Rattle.std.proofs.Common.{◌≡◌, ℕ, ◌-◌, ◌*◌, ◌%◌, ◌<◌, ◌≤◌, true, ◌&&◌, leb, ℤ, refl, ◌∙◌, arith, le-leb, leb-true}
+-- Counts that fit, by plain facts; and that they still fit after one packet more.
+use Rattle.std.proofs.Common.{◌≡◌, ℕ, ◌-◌, ◌*◌, ◌%◌, ◌<◌, ◌≤◌, true, ◌&&◌, leb, refl, ◌∙◌, arith, le-leb, leb-true}
 use Rattle.base.proofs.Tests.{both, and_left, and_right}
-use Rattle.packet.specs.declared.Refusal.{Refusal}
-use Rattle.receiver.specs.declared.Answer.{Answer}
-use Rattle.receiver.specs.declared.Answer.TheVariants.{Refused, Late, Jump, Break, Forward}
-use Rattle.receiver.specs.View.{step_answer}
 use Rattle.receiver_spec.specs.Answers.{gives, is_break, is_jump, is_late, refuses, StepAnswer}
 use Rattle.receiver_spec.specs.Record.{loss_of}
 use Rattle.journal_spec.specs.Contents.{limit}
@@ -90,33 +86,9 @@ module _ (k : Counts) (left : ℕ) (m : OneMore k left) where
   counted_fits (is_break g) h = kept _ record { short = omega (arith, m.packets); packets = omega (arith, m.packets); late = omega (arith, m.late); refused = omega (arith, m.refused); lost = omega (arith, m.lost) }
   counted_fits (gives g) h = kept _ record { short = omega (arith, m.packets); packets = omega (arith, m.packets); late = omega (arith, m.late); refused = omega (arith, m.refused); lost = omega (arith, m.lost) }
 
-module _ (k r : Counts) (x : Answer) where
-  counting : loss_of (step_answer x) < 65536 → r ≡ wrapped64 (counted (step_answer x) k) → (r ≡ wrapped64 (counted (step_answer x) k)) × Counting (step_answer x) k r
-  counting h e = (e, then)
-    where
-      then : Counting (step_answer x) k r
-      then left m =
-          let w = counted_fits k left m (step_answer x) h in
-          let f : r ≡ counted (step_answer x) k = e ∙ w.0 in
-          (f, rw f w.1)
-
-  pub refused_counted : (n : Refusal) → x ≡ Refused n → r ≡ wrapped64 (counted (refuses 0) k)
-      → (r ≡ wrapped64 (counted (step_answer x) k)) × Counting (step_answer x) k r
-  refused_counted n q e = counting (rw q (omega arith)) (rw q e)
-
-  pub late_counted : (z : ℤ) → x ≡ Late z → r ≡ wrapped64 (counted (is_late z) k)
-      → (r ≡ wrapped64 (counted (step_answer x) k)) × Counting (step_answer x) k r
-  late_counted z q e = counting (rw q (omega arith)) (rw q e)
-
-  pub jump_counted : (z : ℤ) → x ≡ Jump z → r ≡ wrapped64 (counted (is_jump z) k)
-      → (r ≡ wrapped64 (counted (step_answer x) k)) × Counting (step_answer x) k r
-  jump_counted z q e = counting (rw q (omega arith)) (rw q e)
-
-  pub break_counted : (o g f t : ℕ) → x ≡ Break o g f t → r ≡ wrapped64 (counted (step_answer (Break o g f t)) k)
-      → (r ≡ wrapped64 (counted (step_answer x) k)) × Counting (step_answer x) k r
-  break_counted o g f t q e = counting (rw q (omega arith)) (rw q e)
-
-  pub forward_counted : (n : ℕ) (z : ℤ) (o g f t : ℕ) → n < 65536 → x ≡ Forward n z o g f t
-      → r ≡ wrapped64 (counted (gives record { loss = n; distance = z; older = o; given = g; from = f; to = t }) k)
-      → (r ≡ wrapped64 (counted (step_answer x) k)) × Counting (step_answer x) k r
-  forward_counted n z o g f t h q e = counting (rw q h) (rw q e)
+-- an answer was counted as numbers of 64 bits
+pub counting : (k r : Counts) (a : StepAnswer) → loss_of a < 65536 → r ≡ wrapped64 (counted a k) → Counting a k r
+counting k r a h e left m =
+    let w = counted_fits k left m a h in
+    let f : r ≡ counted a k = e ∙ w.0 in
+    (f, rw f w.1)

@@ -20,7 +20,7 @@ told r k (packet p c) = printed_of p (step_of r p).answer ++ told (step_of r p).
 told r k ends = line_of k
 told r k breaks = broken_line
 
--- contents behind an open hold no other
+-- contents after an open hold no other
 abbrev NoOpens : Contents → Type 0
 NoOpens (opens t140 red c) = ⊥
 NoOpens (packet p c) = NoOpens c

@@ -2,13 +2,14 @@
 #![tactic(auto)]
 
 ghost use Rattle.std.specs.Prelude.{◌≡◌};
-ghost use Rattle.receiver.specs.View.{step_answer};
+ghost use Rattle.receiver.specs.View.{answered};
 ghost use Rattle.counts.specs.Counts.{no_counts, counted, wrapped64, counts_fit, Counting};
 
+use packet::Refusal;
 use receiver::Answer;
 
 // Of the packets read: those neither late nor refused, those late (jumps among them), the blocks lost, and those refused.
-#[derive(Clone, Copy)]
+#[derive(Clone, Copy, Default)]
 pub struct Counts {
     pub packets: u64,
     pub late: u64,
@@ -25,70 +26,42 @@ impl Counts {
     pub fn none() -> Counts
         ensures { result ≡ no_counts }
     {
-        Counts {
-            packets: 0,
-            late: 0,
-            lost: 0,
-            refused: 0,
-        }
+        Counts::default()
     }
 
     // One answer more.
-    pub fn with(self, answer: Answer) -> Counts
-        ensures value { result ≡ wrapped64 (counted (step_answer answer) self) }
-        ensures counting { Counting (step_answer answer) self result }
+    pub fn with(self, answer: Result<Answer, Refusal>) -> Counts
+        ensures value { result ≡ wrapped64 (counted (answered answer) self) }
+        ensures counting { Counting (answered answer) self result }
     {
-        let mut more = self;
         match answer {
-            Answer::Refused(_) => {
-                more.refused = std::num::wrapping_add_u64(self.refused, 1);
-            }
-            Answer::Late { distance: _ } => {
-                more.late = std::num::wrapping_add_u64(self.late, 1);
-            }
-            Answer::Jump { distance: _ } => {
-                more.late = std::num::wrapping_add_u64(self.late, 1);
-            }
-            Answer::Break {
-                older: _,
-                given: _,
-                from: _,
-                to: _,
-            } => {
-                more.packets = std::num::wrapping_add_u64(self.packets, 1);
-            }
-            Answer::Forward {
-                loss,
-                distance: _,
-                older: _,
-                given: _,
-                from: _,
-                to: _,
-            } => {
-                more.packets = std::num::wrapping_add_u64(self.packets, 1);
-                more.lost = std::num::wrapping_add_u64(self.lost, loss as u64);
-            }
+            Ok(Answer::Late(_) | Answer::Jump(_)) => Counts {
+                late: self.late.wrapping_add(1),
+                ..self
+            },
+            Ok(Answer::Break(given) | Answer::Forward(given)) => Counts {
+                packets: self.packets.wrapping_add(1),
+                lost: self.lost.wrapping_add(u64::from(given.loss)),
+                ..self
+            },
+            Err(_) => Counts {
+                refused: self.refused.wrapping_add(1),
+                ..self
+            },
         }
-        more
     }
 
     // Whether they can be those of a journal of which so many bytes may still be read.
+    #[tactic(auto, unfolding(journal_spec::specs::Contents::limit))]
     pub fn fit(self, left: usize) -> bool
         ensures { result ≡ counts_fit self left }
     {
-        if Counts::LIMIT < left {
-            return false;
-        }
-        let read = (Counts::LIMIT - left) as u64;
-        if read < self.packets {
-            return false;
-        }
-        if read < self.late {
-            return false;
-        }
-        if read < self.refused {
-            return false;
-        }
-        self.lost <= Counts::MOST_LOST * read
+        // `as`: there is no From between usize and u64
+        let read = Counts::LIMIT.saturating_sub(left) as u64;
+        left <= Counts::LIMIT
+            && self.packets <= read
+            && self.late <= read
+            && self.refused <= read
+            && self.lost <= Counts::MOST_LOST * read
     }
 }

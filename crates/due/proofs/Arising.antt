@@ -1,4 +1,4 @@
--- What is due behind an answer and behind a line, and when nothing is.
+-- What is due after an answer and after a line, and when nothing is.
 use Prim.Native.Nat.{ℕ, ◌-◌, ◌<◌, ◌≤◌}
 use mathlib.Core.Path.{◌≡◌, ◌∙◌, refl, ap, sym}
 use mathlib.Core.List.{List, []}
@@ -6,13 +6,13 @@ use mathlib.Core.Bool.{Bool, true, false, ◌&&◌}
 use native.Mathlib.Omega.{arith}
 use borrow.Author.Tests.{leb-true, leb-false, le-leb, eq-eqb, ne_eqb}
 use lib.Dec.{leb, eqb}
-use lib.IntN.{ℤ}
 use lib.ListN.{length, take, drop, length-append}
 use lib.Seq.{take-take, take_at, length-take-le}
 use Rattle.base.specs.Arrays.{over}
 use Rattle.base.proofs.Tests.{both}
 use Rattle.base.proofs.Fronts.{drop_take}
 use Rattle.base.proofs.PartOf.{part_mid}
+use Rattle.receiver.specs.declared.Given as answer
 use Rattle.receiver.specs.declared.Answer.{Answer}
 use Rattle.receiver.specs.declared.Answer.TheVariants.{Break, Forward}
 use Rattle.receiver.specs.View.{step_answer}
@@ -93,8 +93,8 @@ none_is d p ok long =
     ap (λ (b : Bool). eqb d.marks 0 && b)
     (none_left d.from d.to (lies d p ok long).0 ∙ ap (λ (n : ℕ). eqb n 0) (sym (text_length d p ok long)))
 
-pub forward_due : (a : Answer) (n : ℕ) (z : ℤ) (o g f t : ℕ) → a ≡ Forward n z o g f t → record { marks = n; from = f; to = t } ≡ due_of (step_answer a)
-forward_due a n z o g f t e = rw e
+pub forward_due : (a : Answer) (g : answer.Given) → a ≡ Forward g → record { marks = g.loss; from = g.from; to = g.to } ≡ due_of (step_answer a)
+forward_due a g e = rw e
 
-pub break_due : (a : Answer) (o g f t : ℕ) → a ≡ Break o g f t → record { marks = 0; from = f; to = t } ≡ due_of (step_answer a)
-break_due a o g f t e = rw e
+pub break_due : (a : Answer) (g : answer.Given) → a ≡ Break g → record { marks = g.loss; from = g.from; to = g.to } ≡ due_of (step_answer a)
+break_due a g e = rw e

@@ -7,17 +7,15 @@ ghost use Rattle.packet_spec.specs.Limits.{shortest};
 ghost use Rattle.packet_spec.specs.Header as Fields;
 ghost use Rattle.packet_spec.specs.Header.{types_bad, other_type, other_source, header_end, payload_end};
 ghost use Rattle.packet_spec.specs.Reading.{header_checks};
-ghost use Rattle.packet.specs.Refusal.{number};
 ghost use Rattle.packet.specs.Places.{expected_source};
 ghost use Rattle.header.specs.Internal.Seen.{header_seen, refused_header, passed_header, header_of};
 
-use packet::{Expected, Outcome, Refusal};
+use layout::Layout;
+use packet::Refusal;
 
 // Whether the payload is plain, of type T140; the fixed fields; where the payload starts, and where it ends before the padding.
-// All zeros where the header is refused.
 #[derive(Clone, Copy)]
 pub struct Header {
-    pub outcome: Outcome,
     pub plain: bool,
     pub marker: bool,
     pub sequence: u16,
@@ -31,107 +29,78 @@ pub struct Header {
 pub fn types_bad(t140: u8, red: u8) -> bool
     ensures { result ≡ types_bad t140 red }
 {
-    if t140 < 96 {
+    // one by one: joined by `||`, all are always made, which a quiet call of the sender pays for
+    if t140 == red {
         return true;
     }
-    if 127 < t140 {
+    if !(96..=127).contains(&t140) {
         return true;
     }
-    if red < 96 {
-        return true;
-    }
-    if 127 < red {
-        return true;
-    }
-    t140 == red
+    !(96..=127).contains(&red)
 }
 
-fn refused(refusal: Refusal) -> Header
-    ensures { header_seen result ≡ refused_header (number refusal) }
-{
-    Header {
-        outcome: Outcome::Refused(refusal),
-        plain: false,
-        marker: false,
-        sequence: 0,
-        timestamp: 0,
-        source: 0,
-        from: 0,
-        end: 0,
-    }
-}
-
+// That the packet has its fixed header stays a clause of these four: the definitions are of the whole packet, and an array of its
+// first bytes would stand beside it.
 fn other_type(t140: u8, red: u8, packet: &[u8]) -> bool
     requires { shortest ≤ length packet.now }
     ensures { result ≡ other_type t140 red packet.now }
 {
     let kind = packet[1] % 128;
-    if kind == t140 {
-        return false;
-    }
-    kind != red
+    kind != t140 && kind != red
 }
 
 fn source_of(packet: &[u8]) -> u32
     requires { shortest ≤ length packet.now }
     ensures { result ≡ Fields.source_of packet.now }
 {
-    numbers::be32(packet[8], packet[9], packet[10], packet[11])
+    u32::from_be_bytes([packet[8], packet[9], packet[10], packet[11]])
 }
 
-fn other_source(expected: Expected, packet: &[u8]) -> bool
+fn other_source(expected: Option<u32>, packet: &[u8]) -> bool
     requires { shortest ≤ length packet.now }
     ensures { result ≡ other_source (expected_source expected) packet.now }
 {
     match expected {
-        Expected::Any => false,
-        Expected::Only(source) => source_of(packet) != source,
+        None => false,
+        Some(source) => source_of(packet) != source,
     }
 }
 
-// Checks 15 and 16, of a payload that lies from `from` up to `end`.
+// Checks 15 and 16, and the fields, of a packet with this layout.
 fn read_fields(
-    expected: Expected,
+    expected: Option<u32>,
     t140: u8,
     red: u8,
     packet: &[u8],
-    from: usize,
-    end: usize,
-) -> Header
-    requires { (shortest ≤ length packet.now) × (from ≡ header_end packet.now) × (end ≡ payload_end packet.now) }
+    layout: Layout,
+) -> Result<Header, Refusal>
+    requires { (shortest ≤ length packet.now) × (layout.from ≡ header_end packet.now) × (layout.end ≡ payload_end packet.now) }
     ensures { header_seen result ≡ checked refused_header (drop 6 (header_checks (expected_source expected) t140 red packet.now)) (passed_header t140 packet.now) }
 {
     if other_type(t140, red, packet) {
-        return refused(Refusal::PayloadType);
+        return Err(Refusal::PayloadType);
     }
     if other_source(expected, packet) {
-        return refused(Refusal::Source);
+        return Err(Refusal::Source);
     }
-    let kind = packet[1] % 128;
-    let marker = 128 <= packet[1];
-    Header {
-        outcome: Outcome::Accepted,
-        plain: kind == t140,
-        marker,
-        sequence: numbers::be16(packet[2], packet[3]),
-        timestamp: numbers::be32(packet[4], packet[5], packet[6], packet[7]),
+    Ok(Header {
+        plain: packet[1] % 128 == t140,
+        marker: 128 <= packet[1],
+        sequence: u16::from_be_bytes([packet[2], packet[3]]),
+        timestamp: u32::from_be_bytes([packet[4], packet[5], packet[6], packet[7]]),
         source: source_of(packet),
-        from,
-        end,
-    }
+        from: layout.from,
+        end: layout.end,
+    })
 }
 
-// Reads the header of a packet of the source that is expected.
-pub fn read(expected: Expected, t140: u8, red: u8, packet: &[u8]) -> Header
+// Reads the header of a packet of the source that is expected; of any where none is.
+pub fn read(expected: Option<u32>, t140: u8, red: u8, packet: &[u8]) -> Result<Header, Refusal>
     ensures { header_seen result ≡ header_of (expected_source expected) t140 red packet.now }
 {
     if types_bad(t140, red) {
-        return refused(Refusal::PayloadTypes);
+        return Err(Refusal::PayloadTypes);
     }
-    let layout = layout::read(packet);
-    let outcome = layout.outcome;
-    match outcome {
-        Outcome::Refused(refusal) => refused(refusal),
-        Outcome::Accepted => { read_fields(expected, t140, red, packet, layout.from, layout.end) }
-    }
+    let layout = layout::read(packet)?;
+    read_fields(expected, t140, red, packet, layout)
 }

@@ -1,42 +1,33 @@
 // A call's checks, and the packets as they are read.
-ghost use Rattle.std.specs.Prelude.{◌≡◌, cond};
-ghost use Rattle.packet.specs.Refusal.{number, outcome_number};
+ghost use Rattle.std.specs.Prelude.{◌≡◌, ℕ};
+ghost use Rattle.packet.specs.Refusal.{outcome_number};
 ghost use Rattle.packet.specs.Places.{numbered, read_of};
 ghost use Rattle.receiver_spec.specs.State.{source_expected};
 ghost use Rattle.receiver.specs.View.{receiver_of};
-ghost use Rattle.holding_spec.specs.Step.{refusing};
+ghost use Rattle.holding_spec.specs.State.{holds_none, holds_one};
 ghost use Rattle.holding.specs.View.{holding_of, advanced};
 ghost use Rattle.holding.specs.Internal.Calling.{first_number, read_back, step_alone, step_behind, wait_behind};
 
-use crate::{Advanced, HoldingAnswer, HoldingReceiver, arriving};
-use packet::{Outcome, Reading, Refusal};
-use receiver::Receiver;
+use crate::arriving::{self, Read};
+use crate::{Held, HoldingAnswer, HoldingReceiver};
+use packet::{Packet, Refusal};
+use receiver::{Advanced, Receiver};
 
 // The checks before any packet is looked at: 3, then 5.
-pub fn judge(holder: HoldingReceiver, clock: u64) -> Outcome
+pub fn judge(holder: HoldingReceiver, clock: u64) -> Result<(), Refusal>
     ensures { outcome_number result ≡ first_number (holding_of holder) clock }
 {
-    let receiver = holder.receiver;
-    if header::types_bad(receiver.t140, receiver.red) {
-        return Outcome::Refused(Refusal::PayloadTypes);
-    }
-    if clock < holder.clock {
-        return Outcome::Refused(Refusal::Clock);
-    }
-    Outcome::Accepted
-}
-
-pub fn refused(holder: HoldingReceiver, refusal: Refusal) -> Advanced
-    ensures { advanced result ≡ refusing (holding_of holder) (number refusal) }
-{
-    Advanced {
-        receiver: holder,
-        answer: HoldingAnswer::Refused(refusal),
+    if header::types_bad(holder.receiver.t140, holder.receiver.red) {
+        Err(Refusal::PayloadTypes)
+    } else if clock < holder.clock {
+        Err(Refusal::Clock)
+    } else {
+        Ok(())
     }
 }
 
 // A packet as the receiver's step reads it.
-fn read(receiver: Receiver, packet: &[u8]) -> Reading
+fn read(receiver: Receiver, packet: &[u8]) -> Result<Packet, Refusal>
     ensures { numbered result ≡ read_of (source_expected (receiver_of receiver)) receiver.t140 receiver.red packet.now }
 {
     let expected = receiver::source_expected(receiver.has_source, receiver.source);
@@ -44,73 +35,68 @@ fn read(receiver: Receiver, packet: &[u8]) -> Reading
 }
 
 // The packet that is held, as it is lent back: 27 where it is refused or has another number.
-fn read_back(receiver: Receiver, held: u16, lent: &[u8]) -> Reading
+fn read_back(receiver: Receiver, held: u16, lent: &[u8]) -> Result<Packet, Refusal>
     ensures { numbered result ≡ read_back (receiver_of receiver) held lent.now }
 {
-    let reading = read(receiver, lent);
-    let outcome = reading.outcome;
-    match outcome {
-        Outcome::Refused(_) => return Reading::refused(Refusal::HeldPacket),
-        Outcome::Accepted => {}
+    match read(receiver, lent) {
+        Err(_) => Err(Refusal::HeldPacket),
+        Ok(packet) if packet.sequence != held => Err(Refusal::HeldPacket),
+        Ok(packet) => Ok(packet),
     }
-    let packet = reading.packet;
-    if packet.sequence != held {
-        return Reading::refused(Refusal::HeldPacket);
-    }
-    reading
 }
 
 // A packet, with none held.
-pub fn step_alone(holder: HoldingReceiver, clock: u64, packet: &[u8]) -> Advanced
-    ensures { advanced result ≡ step_alone (holding_of holder) clock packet.now }
+pub fn step_alone(
+    receiver: Receiver,
+    clock: u64,
+    packet: &[u8],
+) -> Result<Advanced<HoldingReceiver, HoldingAnswer>, Refusal>
+    ensures { (t : ℕ) → advanced (holds_none (receiver_of receiver) t) result ≡ step_alone (holds_none (receiver_of receiver) t) clock packet.now }
 {
-    let receiver = holder.receiver;
-    let reading = read(receiver, packet);
-    let outcome = reading.outcome;
-    match outcome {
-        Outcome::Refused(refusal) => refused(holder, refusal),
-        Outcome::Accepted => {
-            let content = reading.packet;
-            arriving::arrive_alone(receiver, clock, packet, content)
-        }
-    }
+    let new = read(receiver, packet)?;
+    let new = Read {
+        bytes: packet,
+        packet: new,
+    };
+    arriving::arrive_alone(receiver, clock, new)
 }
 
 // A packet, with one held.
-pub fn step_behind(holder: HoldingReceiver, clock: u64, lent: &[u8], packet: &[u8]) -> Advanced
-    ensures { advanced result ≡ step_behind (holding_of holder) clock lent.now packet.now }
+pub fn step_behind(
+    receiver: Receiver,
+    held: Held,
+    clock: u64,
+    lent: &[u8],
+    packet: &[u8],
+) -> Result<Advanced<HoldingReceiver, HoldingAnswer>, Refusal>
+    ensures { (t : ℕ) → advanced (holds_one (receiver_of receiver) held.number held.arrival t) result ≡ step_behind (holds_one (receiver_of receiver) held.number held.arrival t) clock lent.now packet.now }
 {
-    let receiver = holder.receiver;
-    let back = read_back(receiver, holder.held, lent);
-    let judged = back.outcome;
-    match judged {
-        Outcome::Refused(refusal) => return refused(holder, refusal),
-        Outcome::Accepted => {}
-    }
-    let reading = read(receiver, packet);
-    let outcome = reading.outcome;
-    match outcome {
-        Outcome::Refused(refusal) => refused(holder, refusal),
-        Outcome::Accepted => {
-            let held = back.packet;
-            let content = reading.packet;
-            arriving::arrive_behind(receiver, clock, holder.arrival, lent, held, packet, content)
-        }
-    }
+    let back = read_back(receiver, held.number, lent)?;
+    let back = Read {
+        bytes: lent,
+        packet: back,
+    };
+    let new = read(receiver, packet)?;
+    let new = Read {
+        bytes: packet,
+        packet: new,
+    };
+    arriving::arrive_behind(receiver, held.arrival, clock, back, new)
 }
 
 // No packet, with one held.
-pub fn wait_behind(holder: HoldingReceiver, clock: u64, lent: &[u8]) -> Advanced
-    ensures { advanced result ≡ wait_behind (holding_of holder) clock lent.now }
+pub fn wait_behind(
+    receiver: Receiver,
+    held: Held,
+    clock: u64,
+    lent: &[u8],
+) -> Result<Advanced<HoldingReceiver, HoldingAnswer>, Refusal>
+    ensures { (t : ℕ) → advanced (holds_one (receiver_of receiver) held.number held.arrival t) result ≡ wait_behind (holds_one (receiver_of receiver) held.number held.arrival t) clock lent.now }
 {
-    let receiver = holder.receiver;
-    let back = read_back(receiver, holder.held, lent);
-    let judged = back.outcome;
-    match judged {
-        Outcome::Refused(refusal) => refused(holder, refusal),
-        Outcome::Accepted => {
-            let held = back.packet;
-            arriving::wait_behind(receiver, clock, holder.arrival, lent, held)
-        }
-    }
+    let back = read_back(receiver, held.number, lent)?;
+    let back = Read {
+        bytes: lent,
+        packet: back,
+    };
+    arriving::wait_behind(receiver, held.arrival, clock, back)
 }

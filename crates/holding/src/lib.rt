@@ -8,46 +8,42 @@ mod calling;
 ghost use Rattle.std.specs.Prelude.{◌≡◌};
 ghost use Rattle.std.proofs.Math.Option.{none, some};
 ghost use Rattle.holding_spec.specs.Opening.{open_holding};
-ghost use Rattle.base.specs.Arrays.{part};
 ghost use Rattle.holding_spec.specs.Answers.{bytes_of};
 ghost use Rattle.holding_spec.specs.Step.{holding_step, text_handed};
-ghost use Rattle.holding.specs.View.{holding_of, which_of, holding_answer, opening, advanced, handed, handed_of};
+ghost use Rattle.holding.specs.View.{holding_of, which_of, answered, opening, advanced, handed, handed_of};
 ghost use Rattle.holding_spec.specs.Record.{new_bytes};
 
-use packet::{Outcome, Refusal};
-use receiver::Receiver;
+use packet::Refusal;
+use receiver::{Advanced, Given, Receiver, Stepped};
 
-// A receiver, of the packets handed out; whether a packet is held, its number and the clock of its arrival, 0 where none is; and the
-// latest clock.
+// The packet that is held, which stays with the caller: its number, and the clock of its arrival.
+#[derive(Clone, Copy)]
+pub struct Held {
+    pub number: u16,
+    pub arrival: u64,
+}
+
+// A receiver, of the packets handed out; the packet that is held, if one is; and the latest clock. What C lends beside a cleared flag
+// is left out here, since no accepted call keeps it.
 #[derive(Clone, Copy)]
 pub struct HoldingReceiver {
     pub receiver: Receiver,
-    pub has_held: bool,
-    pub held: u16,
-    pub arrival: u64,
+    pub held: Option<Held>,
     pub clock: u64,
 }
 
-#[derive(Clone, Copy)]
-pub struct Opened {
-    pub outcome: Outcome,
-    pub receiver: HoldingReceiver,
-}
-
 // Which of a call's two packets: the one that is held, or the new one.
-#[derive(Clone, Copy)]
+#[derive(Clone, Copy, PartialEq, Eq)]
 pub enum Which {
     Neither,
     Held,
     New,
 }
 
-// What a call answers, and with it which packet to keep. `Waits`, a late packet and a jump give nothing. `Gives` are the last `given`
-// blocks of packet `of`, which lie from `from` up to `to` in it; with `again` the new packet is to be given again. A break is the new
-// packet's, and none is kept.
+// What an accepted call answers, and with it which packet to keep. `Waits`, a late packet and a jump give nothing. `Gives` is of
+// packet `of`; with `again` the new packet is to be given again. A break is the new packet's, and none is kept.
 #[derive(Clone, Copy)]
 pub enum HoldingAnswer {
-    Refused(Refusal),
     Waits {
         distance: i16,
         keep: Which,
@@ -60,171 +56,135 @@ pub enum HoldingAnswer {
         distance: i16,
         keep: Which,
     },
-    Break {
-        older: usize,
-        given: usize,
-        from: usize,
-        to: usize,
-    },
+    Break(Given),
     Gives {
         of: Which,
         keep: Which,
         again: bool,
-        loss: u16,
-        distance: i16,
-        older: usize,
-        given: usize,
-        from: usize,
-        to: usize,
+        given: Given,
     },
-}
-
-// The receiver for the next call, and the answer.
-#[derive(Clone, Copy)]
-pub struct Advanced {
-    pub receiver: HoldingReceiver,
-    pub answer: HoldingAnswer,
-}
-
-// The same with the text: a part of either the held packet or the new one.
-#[derive(Clone, Copy)]
-pub struct Stepped<'a> {
-    pub receiver: HoldingReceiver,
-    pub answer: HoldingAnswer,
-    pub text: &'a [u8],
 }
 
 impl HoldingReceiver {
     // How long a packet is held, in ms.
     pub const LONGEST_HOLD: u64 = 1000;
 
-    pub fn open(t140: u8, red: u8) -> Opened
+    pub fn open(t140: u8, red: u8) -> Result<HoldingReceiver, Refusal>
         ensures { opening result ≡ open_holding t140 red }
     {
-        let opened = Receiver::open(t140, red);
-        let receiver = arriving::empty(opened.receiver, 0);
-        let outcome = opened.outcome;
-        Opened { outcome, receiver }
+        let receiver = Receiver::open(t140, red)?;
+        Ok(HoldingReceiver {
+            receiver,
+            held: None,
+            clock: 0,
+        })
     }
 
-    // A packet at a clock, with what is lent as the packet held: the receiver for the next call, the answer and the text.
-    pub fn step<'a>(self, clock: u64, held: &'a [u8], packet: &'a [u8]) -> Stepped<'a>
-        ensures { handed result ≡ handed_of (holding_of self) clock held.now (some packet.now) }
+    // A packet at a clock, with what is lent as the packet held: the receiver for the next call, the answer and the text, a part of
+    // either the held packet or the new one.
+    pub fn step<'a>(
+        self,
+        clock: u64,
+        held: &'a [u8],
+        packet: &'a [u8],
+    ) -> Result<Stepped<'a, HoldingReceiver, HoldingAnswer>, Refusal>
+        ensures { handed (holding_of self) result ≡ handed_of (holding_of self) clock held.now (some packet.now) }
     {
-        let advanced = self.advance(clock, held, packet);
-        let answer = advanced.answer;
-        let given = text(held, packet, answer);
-        Stepped {
-            receiver: advanced.receiver,
+        let Advanced { receiver, answer } = self.advance(clock, held, packet)?;
+        Ok(Stepped {
+            receiver,
             answer,
-            text: given,
-        }
+            text: text(held, packet, Ok(answer)),
+        })
     }
 
     // A clock without a packet.
-    pub fn wait<'a>(self, clock: u64, held: &'a [u8]) -> Stepped<'a>
-        ensures { handed result ≡ handed_of (holding_of self) clock held.now none }
+    pub fn wait<'a>(
+        self,
+        clock: u64,
+        held: &'a [u8],
+    ) -> Result<Stepped<'a, HoldingReceiver, HoldingAnswer>, Refusal>
+        ensures { handed (holding_of self) result ≡ handed_of (holding_of self) clock held.now none }
     {
-        let advanced = self.advance_clock(clock, held);
-        let answer = advanced.answer;
-        let given = text_of_held(held, answer);
-        Stepped {
-            receiver: advanced.receiver,
+        let Advanced { receiver, answer } = self.advance_clock(clock, held)?;
+        Ok(Stepped {
+            receiver,
             answer,
-            text: given,
-        }
+            text: text_of_held(held, Ok(answer)),
+        })
     }
 
     // The step without its text.
-    pub fn advance(self, clock: u64, held: &[u8], packet: &[u8]) -> Advanced
-        ensures { advanced result ≡ holding_step (holding_of self) clock held.now (some packet.now) }
+    pub fn advance(
+        self,
+        clock: u64,
+        held: &[u8],
+        packet: &[u8],
+    ) -> Result<Advanced<HoldingReceiver, HoldingAnswer>, Refusal>
+        ensures { advanced (holding_of self) result ≡ holding_step (holding_of self) clock held.now (some packet.now) }
     {
-        let judged = calling::judge(self, clock);
-        match judged {
-            Outcome::Refused(refusal) => return calling::refused(self, refusal),
-            Outcome::Accepted => {}
+        calling::judge(self, clock)?;
+        match self.held {
+            Some(of) => calling::step_behind(self.receiver, of, clock, held, packet),
+            None => calling::step_alone(self.receiver, clock, packet),
         }
-        if self.has_held {
-            return calling::step_behind(self, clock, held, packet);
-        }
-        calling::step_alone(self, clock, packet)
     }
 
     // The wait without its text.
-    pub fn advance_clock(self, clock: u64, held: &[u8]) -> Advanced
-        ensures { advanced result ≡ holding_step (holding_of self) clock held.now none }
+    pub fn advance_clock(
+        self,
+        clock: u64,
+        held: &[u8],
+    ) -> Result<Advanced<HoldingReceiver, HoldingAnswer>, Refusal>
+        ensures { advanced (holding_of self) result ≡ holding_step (holding_of self) clock held.now none }
     {
-        let judged = calling::judge(self, clock);
-        match judged {
-            Outcome::Refused(refusal) => return calling::refused(self, refusal),
-            Outcome::Accepted => {}
-        }
-        if self.has_held {
-            return calling::wait_behind(self, clock, held);
-        }
-        let receiver = arriving::empty(self.receiver, clock);
-        Advanced {
-            receiver,
-            answer: HoldingAnswer::Waits {
-                distance: 0,
-                keep: Which::Neither,
-            },
+        calling::judge(self, clock)?;
+        match self.held {
+            Some(of) => calling::wait_behind(self.receiver, of, clock, held),
+            None => Ok(Advanced {
+                receiver: HoldingReceiver { clock, ..self },
+                answer: HoldingAnswer::Waits {
+                    distance: 0,
+                    keep: Which::Neither,
+                },
+            }),
         }
     }
 }
 
 // The text that an answer hands out, of the packets that were lent.
-pub fn text<'a>(held: &'a [u8], packet: &'a [u8], answer: HoldingAnswer) -> &'a [u8]
-    ensures { result.now ≡ text_handed held.now packet.now (holding_answer answer) }
+pub fn text<'a>(
+    held: &'a [u8],
+    packet: &'a [u8],
+    answer: Result<HoldingAnswer, Refusal>,
+) -> &'a [u8]
+    ensures { result.now ≡ text_handed held.now packet.now (answered answer) }
 {
     match answer {
-        HoldingAnswer::Refused(_) => &held[..0],
-        HoldingAnswer::Waits {
-            distance: _,
-            keep: _,
-        } => &held[..0],
-        HoldingAnswer::Late {
-            distance: _,
-            keep: _,
-        } => &held[..0],
-        HoldingAnswer::Jump {
-            distance: _,
-            keep: _,
-        } => &held[..0],
-        HoldingAnswer::Break {
-            older: _,
-            given: _,
-            from,
-            to,
-        } => packet::part(packet, from, to),
-        HoldingAnswer::Gives {
-            of,
-            keep: _,
-            again: _,
-            loss: _,
-            distance: _,
-            older: _,
-            given: _,
-            from,
-            to,
-        } => part_of(of, held, packet, from, to),
+        Ok(HoldingAnswer::Break(given)) => packet::part(packet, given.from, given.to),
+        Ok(HoldingAnswer::Gives { of, given, .. }) => packet::part(
+            bytes_of(of, held, packet),
+            given.from,
+            given.to,
+        ),
+        _ => &held[..0],
     }
 }
 
 // The same where no packet arrived.
-pub fn text_of_held(held: &[u8], answer: HoldingAnswer) -> &[u8]
-    ensures { result.now ≡ text_handed held.now (new_bytes none) (holding_answer answer) }
+pub fn text_of_held(held: &[u8], answer: Result<HoldingAnswer, Refusal>) -> &[u8]
+    ensures { result.now ≡ text_handed held.now (new_bytes none) (answered answer) }
 {
     text(held, &held[..0], answer)
 }
 
-// A part of either the held packet or the new one.
-fn part_of<'a>(of: Which, held: &'a [u8], packet: &'a [u8], from: usize, to: usize) -> &'a [u8]
-    ensures { result.now ≡ part from to (bytes_of (which_of of) held.now packet.now) }
+// The bytes of either the held packet or the new one.
+fn bytes_of<'a>(of: Which, held: &'a [u8], packet: &'a [u8]) -> &'a [u8]
+    ensures { result.now ≡ bytes_of (which_of of) held.now packet.now }
 {
     match of {
-        Which::Neither => packet::part(&held[..0], from, to),
-        Which::Held => packet::part(held, from, to),
-        Which::New => packet::part(packet, from, to),
+        Which::Neither => &held[..0],
+        Which::Held => held,
+        Which::New => packet,
     }
 }

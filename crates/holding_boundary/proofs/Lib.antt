@@ -1,1 +1,2 @@
 pub mod NumberTells
+pub mod KnownHolder

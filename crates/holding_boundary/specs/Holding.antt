@@ -1,19 +1,24 @@
 -- What the exported calls of a receiver that holds say: their number, and the two records lent to them.
-use Rattle.std.specs.Prelude.{ℕ, ◌≡◌, Bool, false, cond, ℤ, pos}
+use Rattle.std.specs.Prelude.{ℕ, ◌≡◌, Bool, false, cond, ℤ, pos, Result, Ok, Err}
 use Rattle.base.specs.Flags.{is_set, bit}
 use Rattle.boundary.specs.declared.Step.{Step}
 use Rattle.boundary.specs.Receiving.{held_in, lent_record, forward_course, late_course, jump_course, break_course, nothing_given, some_given}
-use Rattle.holding_spec.specs.State.{HoldingReceiver}
+use Rattle.packet.specs.declared.Refusal.{Refusal}
+use Rattle.packet.specs.Refusal.{number}
+use Rattle.receiver.specs.declared.Advanced.{Advanced}
+use Rattle.holding_spec.specs.State.{HoldingReceiver, zero_holding}
 use Rattle.holding_spec.specs.Answers as holding
 use Rattle.holding_spec.specs.Answers.{HoldingOpening, Which, neither, held, new, HoldingAnswer, refuses, waits, is_late, is_jump, is_break, gives, was_refused}
 use Rattle.holding_boundary.specs.declared.HoldingRecord.{HoldingRecord}
 use Rattle.holding_boundary.specs.declared.HoldingStep.{HoldingStep}
-use Rattle.holding_boundary.specs.declared.Opening.{Opening}
-use Rattle.holding_boundary.specs.declared.Call.{Call}
 
 -- the receiver that a record holds
 abbrev pub held_holding : HoldingRecord → HoldingReceiver
 held_holding r = record { receiver = held_in r.receiver; has_held = is_set r.has_held; held = r.held; arrival = r.arrival; clock = r.clock }
+
+-- the same without what is lent beside a cleared flag
+abbrev pub known : HoldingReceiver → HoldingReceiver
+known s = record { receiver = s.receiver; has_held = s.has_held; held = cond s.has_held s.held 0; arrival = cond s.has_held s.arrival 0; clock = s.clock }
 
 abbrev pub lent_holding : HoldingReceiver → HoldingRecord
 lent_holding s = record { receiver = lent_record s.receiver; has_held = bit s.has_held; held = s.held; arrival = s.arrival; clock = s.clock }
@@ -47,15 +52,21 @@ answer_number (is_jump z keep) = 0
 answer_number (is_break g) = 0
 answer_number (gives of keep again g) = 0
 
-pub record Opens (o : HoldingOpening) (r : Opening) : Type 0 where
-  pub number : r.number ≡ o.number
-  pub receiver : r.receiver ≡ lent_holding o.receiver
+-- an opening: the record that it leaves, or a refusal
+abbrev pub Opens : HoldingOpening → Result HoldingRecord Refusal → Type 0
+Opens o (Ok r) = (o.number ≡ 0) × (r ≡ lent_holding o.receiver)
+Opens o (Err e) = (o.number ≡ number e) × (o.receiver ≡ zero_holding)
 
-pub record Tells (s : holding.HoldingStep) (r : Call) : Type 0 where
-  pub refused : r.refused ≡ was_refused s.answer
-  pub number : r.number ≡ answer_number s.answer
+-- an accepted call leaves two records
+pub record Leaves (s : holding.HoldingStep) (r : Advanced HoldingRecord HoldingStep) : Type 0 where
+  pub refused : was_refused s.answer ≡ false
+  pub number : answer_number s.answer ≡ 0
   pub receiver : r.receiver ≡ lent_holding s.receiver
-  pub step : r.step ≡ answer_record s.answer
+  pub step : r.answer ≡ answer_record s.answer
+
+abbrev pub Tells : holding.HoldingStep → Result (Advanced HoldingRecord HoldingStep) Refusal → Type 0
+Tells s (Ok r) = Leaves s r
+Tells s (Err e) = s.answer ≡ refuses (number e)
 
 -- the two records behind a call: as they were, where it is refused
 abbrev pub receiver_behind : holding.HoldingStep → HoldingRecord → HoldingRecord

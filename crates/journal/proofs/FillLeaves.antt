@@ -31,7 +31,7 @@ module _ (s₀ : Transcript) (p₀ x₀ y₀ : List ℕ) where
   abbrev whole : Fill
   whole = fill_of (standing_of s₀ p₀) x₀ (length y₀)
 
-  -- behind some turns, which gave `given`
+  -- after some turns, which gave `given`
   pub record SoFar (s : Transcript) (p y : List ℕ) (used count : ℕ) : Type 0 where
     pub still : transcript_ready s ≡ true
     pub lent : length p ≡ length p₀

@@ -5,3 +5,4 @@ pub mod GiveLeaves
 pub mod FillLeaves
 pub mod CodeGives
 pub mod HowFar
+pub mod Fronts

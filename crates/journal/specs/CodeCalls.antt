@@ -7,7 +7,7 @@ use Rattle.journal.specs.declared.Transcript.{Transcript}
 use Rattle.journal.specs.Ready.{first, Filling, Stopping, done}
 
 -- Calls of the code on one lent buffer, each answered as its contract says: from a transcript, the buffer p and the journal's
--- bytes still to come to those behind the calls, with what was given, joined. A buffer keeps its length, and `stop` is called
+-- bytes still to come to those after the calls, with what was given, joined. A buffer keeps its length, and `stop` is called
 -- only where the journal has no more bytes.
 pub data Ran : Transcript → List ℕ → List ℕ → List TranscriptCall → List ℕ → Transcript → List ℕ → List ℕ → Type 0 where
   none : (s : Transcript) (p rest : List ℕ) → Ran s p rest [] [] s p rest

@@ -15,6 +15,8 @@ use due::Due;
 use reading::Reader;
 use receiver::Receiver;
 
+const BUFFER: usize = Transcript::BUFFER;
+
 // A transcript under way: the journal's reader, the receiver, the counts, how many bytes of the journal may still be
 // read, and what is due.
 #[derive(Clone, Copy)]
@@ -42,20 +44,13 @@ impl Transcript {
     // So many bytes of a journal are read at most.
     pub const LIMIT: usize = Counts::LIMIT;
 
+    #[tactic(auto, unfolding(journal_spec::specs::Contents::limit))]
     pub fn start() -> Transcript
         ensures { result ≡ first }
     {
         Transcript {
             reader: Reader::fresh(),
-            receiver: Receiver {
-                t140: 0,
-                red: 0,
-                has_source: false,
-                has_kept: false,
-                source: 0,
-                expected: 0,
-                kept: 0,
-            },
+            receiver: Receiver::default(),
             counts: Counts::none(),
             left: Transcript::LIMIT,
             due: Due::none(),
@@ -68,14 +63,17 @@ impl Transcript {
     pub fn fill(self, input: &[u8], packet: &mut [u8], space: &mut [u8]) -> Filled
         ensures { Filling self packet.old input.now space.old result.transcript packet.new space.new result.used result.count }
     {
-        let ready = state::is_ready(self, packet.len());
-        if ready {
-            return filling::fill(self, input, packet, space);
-        }
-        Filled {
+        let nothing = Filled {
             transcript: self,
             used: 0,
             count: 0,
+        };
+        if !state::is_ready(self) {
+            return nothing;
+        }
+        match packet.first_chunk_mut::<BUFFER>() {
+            Some(front) => filling::fill(self, input, front, space),
+            None => nothing,
         }
     }
 
@@ -83,32 +81,26 @@ impl Transcript {
     pub fn stop(self, packet: &mut [u8]) -> Transcript
         ensures { Stopping self packet.old result packet.new }
     {
-        let ready = state::is_ready(self, packet.len());
-        if ready {
-            return settling::stop(self, packet);
+        if !state::is_ready(self) {
+            return self;
         }
-        self
+        match packet.first_chunk_mut::<BUFFER>() {
+            Some(front) => settling::stop(self, front),
+            None => self,
+        }
     }
 
     // Whether marks or text are due.
     pub fn is_due(self) -> bool
         ensures { result ≡ not (none_due self.due) }
     {
-        let due = self.due;
-        let nothing = due.is_none();
-        !nothing
+        !self.due.is_none()
     }
 
     // Whether the end has come, and all is given.
     pub fn is_done(self) -> bool
         ensures { result ≡ done self }
     {
-        let reader = self.reader;
-        let part = reader.part;
-        if part.is_going() {
-            return false;
-        }
-        let due = self.due;
-        due.is_none()
+        !self.reader.part.is_going() && self.due.is_none()
     }
 }

@@ -1,6 +1,5 @@
 // What was read is acted upon.
-ghost use Rattle.std.specs.Prelude.{◌≡◌, true, ◌≤◌, length};
-ghost use Rattle.journal_spec.specs.Contents.{longest_packet};
+ghost use Rattle.std.specs.Prelude.{◌≡◌, true};
 ghost use Rattle.journal_spec.specs.Lines.{broken_line};
 ghost use Rattle.counts.specs.Counts.{OneMore};
 ghost use Rattle.standing.specs.Standing.{settled, closed};
@@ -11,53 +10,43 @@ use parts::Part;
 use reading::Reader;
 
 // The journal is broken: its line is due.
-pub fn break_off(s: Transcript, packet: &mut [u8]) -> Transcript
-    requires { (transcript_ready s ≡ true) × (longest_packet ≤ length packet.old) }
+pub fn break_off(s: Transcript, packet: &mut [u8; Transcript::BUFFER]) -> Transcript
+    requires { transcript_ready s ≡ true }
     ensures { (transcript_ready result ≡ true) × (standing_of result packet.new ≡ closed (standing_of s packet.old) Part.Broken broken_line) }
 {
-    let due = acting::break_off(packet);
-    let reader = s.reader;
-    let mut broken = s;
-    broken.reader = Reader::outside(reader.opened, Part::Broken);
-    broken.due = due;
-    broken
+    Transcript {
+        reader: Reader::outside(s.reader.opened, Part::Broken),
+        due: acting::break_off(packet),
+        ..s
+    }
 }
 
 // The journal has no more bytes.
-pub fn stop(s: Transcript, packet: &mut [u8]) -> Transcript
-    requires { (transcript_ready s ≡ true) × (longest_packet ≤ length packet.old) }
+pub fn stop(s: Transcript, packet: &mut [u8; Transcript::BUFFER]) -> Transcript
+    requires { transcript_ready s ≡ true }
     ensures { Stops s packet.old result packet.new }
 {
-    let hungry = state::is_hungry(s);
-    if hungry {
-        return break_off(s, packet);
+    if state::is_hungry(s) {
+        break_off(s, packet)
+    } else {
+        s
     }
-    s
 }
 
 // Where reading goes on more is to come, unless the limit is reached.
-pub fn settle(s: Transcript, packet: &mut [u8]) -> Transcript
-    requires { (transcript_ready s ≡ true) × (longest_packet ≤ length packet.old) × (s.reader.part ≡ Part.Packet → OneMore s.counts s.left) }
+pub fn settle(s: Transcript, packet: &mut [u8; Transcript::BUFFER]) -> Transcript
+    requires { (transcript_ready s ≡ true) × (s.reader.part ≡ Part.Packet → OneMore s.counts s.left) }
     ensures { (transcript_ready result ≡ true) × (standing_of result packet.new ≡ settled (standing_of s packet.old)) }
 {
-    let reader = s.reader;
-    let part = reader.part;
-    if part.is_going() {
-        if s.left == 0 {
-            return break_off(s, packet);
-        }
-        return s;
+    if s.reader.part.is_going() {
+        return if s.left == 0 { break_off(s, packet) } else { s };
     }
-    let before = s.receiver;
-    let so_far = s.counts;
-    let acted = acting::act(part, reader.size, before, so_far, packet);
-    let receiver = acted.receiver;
-    let counts = acted.counts;
-    let due = acted.due;
-    let mut settled = s;
-    settled.reader = reader.past();
-    settled.receiver = receiver;
-    settled.counts = counts;
-    settled.due = due;
-    settled
+    let acted = acting::act(s.reader.part, s.reader.size, s.receiver, s.counts, packet);
+    Transcript {
+        reader: s.reader.past(),
+        receiver: acted.receiver,
+        counts: acted.counts,
+        due: acted.due,
+        ..s
+    }
 }

@@ -1,2 +1,1 @@
-pub mod Payload
 pub mod AnswerTells

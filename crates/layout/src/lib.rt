@@ -6,114 +6,72 @@ ghost use Rattle.base.specs.Checks.{checked};
 ghost use Rattle.packet_spec.specs.Limits.{shortest, longest};
 ghost use Rattle.packet_spec.specs.Header.{header_end, padding_bad, payload_end};
 ghost use Rattle.packet_spec.specs.Internal.Layout.{layout_checks};
-ghost use Rattle.packet.specs.Refusal.{number};
 ghost use Rattle.layout.specs.Internal.Seen.{layout_seen, refused_layout, passed_layout, layout_of};
 
-use packet::{Outcome, Packet, Refusal};
+use packet::{Packet, Refusal};
 
-// Where the payload starts, and where it ends before the padding. Zeros where the packet is refused.
+// Where the payload starts, and where it ends before the padding.
 #[derive(Clone, Copy)]
 pub struct Layout {
-    pub outcome: Outcome,
     pub from: usize,
     pub end: usize,
 }
 
-// A place in the packet, or none within it.
-#[derive(Clone, Copy)]
-enum Place {
-    At(usize),
-    Past,
-}
-
-// Where the payload starts, behind the source list and the extension.
-fn start(packet: &[u8]) -> Place
+// Where the payload starts, after the source list and the extension; none where that is not within the packet.
+fn start(packet: &[u8]) -> Option<usize>
     requires { (shortest ≤ length packet.now) × (length packet.now ≤ longest) }
-    ensures { result ≡ cond (ltb (length packet.now) (header_end packet.now)) Place.Past (Place.At (header_end packet.now)) }
+    ensures { result ≡ cond (ltb (length packet.now) (header_end packet.now)) None (Some (header_end packet.now)) }
 {
-    let b = numbers::wide(packet[0]);
-    let n = packet.len();
+    let b = usize::from(packet[0]);
     let list_end = 12 + b % 16 * 4;
-    if b / 16 % 2 == 0 {
-        if n < list_end {
-            return Place::Past;
+    let mut end = list_end;
+    if b / 16 % 2 != 0 {
+        if packet.len() < list_end + 4 {
+            return None;
         }
-        return Place::At(list_end);
+        let words = u16::from_be_bytes([packet[list_end + 2], packet[list_end + 3]]);
+        end = list_end + 4 + usize::from(words) * 4;
     }
-    if n < list_end + 4 {
-        return Place::Past;
+    if packet.len() < end {
+        return None;
     }
-    let words = numbers::be16(packet[list_end + 2], packet[list_end + 3]) as usize;
-    let end = list_end + 4 + words * 4;
-    if n < end {
-        return Place::Past;
-    }
-    Place::At(end)
+    Some(end)
 }
 
-// Where the payload ends, before the padding.
-fn end(packet: &[u8], from: usize) -> Place
+// Where the payload ends, before the padding; none where there is bad padding.
+fn end(packet: &[u8], from: usize) -> Option<usize>
     requires { (shortest ≤ length packet.now) × (from ≡ header_end packet.now) × (from ≤ length packet.now) }
-    ensures { result ≡ cond (padding_bad packet.now) Place.Past (Place.At (payload_end packet.now)) }
+    ensures { result ≡ cond (padding_bad packet.now) None (Some (payload_end packet.now)) }
 {
-    let b = packet[0];
     let n = packet.len();
-    if b / 32 % 2 == 0 {
-        return Place::At(n);
+    if packet[0] / 32 % 2 == 0 {
+        return Some(n);
     }
-    if n == from {
-        return Place::Past;
-    }
-    let count = numbers::wide(packet[n - 1]);
+    let count = usize::from(packet[n - 1]);
     if count == 0 {
-        return Place::Past;
+        return None;
     }
     if n - from < count {
-        return Place::Past;
+        return None;
     }
-    Place::At(n - count)
-}
-
-fn refused(refusal: Refusal) -> Layout
-    ensures { layout_seen result ≡ refused_layout (number refusal) }
-{
-    Layout {
-        outcome: Outcome::Refused(refusal),
-        from: 0,
-        end: 0,
-    }
-}
-
-// Checks 13 and 14.
-fn read_rest(packet: &[u8]) -> Layout
-    requires { (shortest ≤ length packet.now) × (length packet.now ≤ longest) }
-    ensures { layout_seen result ≡ checked refused_layout (drop 3 (layout_checks packet.now)) (passed_layout packet.now) }
-{
-    match start(packet) {
-        Place::Past => refused(Refusal::Header),
-        Place::At(from) => match end(packet, from) {
-            Place::Past => refused(Refusal::Padding),
-            Place::At(end) => Layout {
-                outcome: Outcome::Accepted,
-                from,
-                end,
-            },
-        },
-    }
+    Some(n - count)
 }
 
 // Where the payload of a packet lies.
-pub fn read(packet: &[u8]) -> Layout
+#[tactic(auto, unfolding(crate::specs::Internal::Seen::layout_of))]
+pub fn read(packet: &[u8]) -> Result<Layout, Refusal>
     ensures { layout_seen result ≡ layout_of packet.now }
 {
     if packet.len() < Packet::SHORTEST {
-        return refused(Refusal::Short);
+        return Err(Refusal::Short);
     }
     if Packet::LONGEST < packet.len() {
-        return refused(Refusal::Long);
+        return Err(Refusal::Long);
     }
     if packet[0] / 64 != 2 {
-        return refused(Refusal::Version);
+        return Err(Refusal::Version);
     }
-    read_rest(packet)
+    let from = start(packet).ok_or(Refusal::Header)?;
+    let end = end(packet, from).ok_or(Refusal::Padding)?;
+    Ok(Layout { from, end })
 }

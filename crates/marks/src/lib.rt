@@ -4,7 +4,7 @@
 ghost use Rattle.std.specs.Prelude.{◌≡◌};
 ghost use Rattle.receiver_spec.specs.Marks.{marks_written, marks_over};
 
-// The mark that stands for one lost block.
+// The mark that stands for one lost block. The type has no fields: it gives the constants their name.
 #[derive(Clone, Copy)]
 pub struct LossMark {}
 
@@ -19,15 +19,11 @@ impl LossMark {
 pub fn write_marks(count: usize, space: &mut [u8]) -> usize
     ensures { (result ≡ marks_written count space.old) × (space.new ≡ marks_over count space.old) }
 {
-    let written = numbers::least(count, space.len() / LossMark::SIZE);
-    let mark = LossMark::BYTES;
-    let mut k: usize = 0;
-    while k < written {
+    let written = count.min(space.len() / LossMark::SIZE);
+    // by places: after a walk by `chunks_exact_mut` a proof knows the space's length and not its bytes
+    for k in 0..written {
         let at = LossMark::SIZE * k;
-        space[at] = mark[0];
-        space[at + 1] = mark[1];
-        space[at + 2] = mark[2];
-        k += 1;
+        space[at..at + LossMark::SIZE].copy_from_slice(&LossMark::BYTES);
     }
     written
 }

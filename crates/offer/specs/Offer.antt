@@ -1,8 +1,7 @@
 -- What an offer comes to, by the parts of a sender that it looks at.
-use Rattle.std.specs.Prelude.{ℕ, ◌+◌, ◌*◌, min, ◌≡◌, List, [], false, length}
+use Rattle.std.specs.Prelude.{ℕ, Result, Ok, Err, ◌+◌, ◌*◌, min, ◌≡◌, List, [], false, length}
 use Rattle.text_spec.specs.Front.{characters}
-use Rattle.packet.specs.declared.Outcome.{Outcome}
-use Rattle.packet.specs.declared.Outcome.TheVariants.{Accepted, Refused}
+use Rattle.packet.specs.declared.Refusal.{Refusal}
 use Rattle.packet.specs.Refusal.{outcome_number}
 use Rattle.sender_spec.specs.Limits.{room_size}
 use Rattle.sender_spec.specs.State as State
@@ -10,17 +9,15 @@ use Rattle.sender_spec.specs.Calls.{offer_of}
 use Rattle.slots.specs.Slots.{texts_size, room_of, waiting_in, over_at}
 use Rattle.settings.specs.declared.Settings.{Settings}
 use Rattle.settings.specs.State.{settings_of}
-use Rattle.offer.specs.declared.Offered.{Offered}
-use Rattle.offer.specs.declared.Offered.TheVariants as Offerings
 
-abbrev pub outcome_of : Offered → Outcome
-outcome_of (Offerings.Joined n) = Accepted
-outcome_of (Offerings.Refused r) = Refused r
+abbrev pub outcome_of : Result ℕ Refusal → Result Unit Refusal
+outcome_of (Ok n) = Ok tt
+outcome_of (Err r) = Err r
 
 -- how many characters joined
-abbrev pub characters_of : Offered → ℕ
-characters_of (Offerings.Joined n) = n
-characters_of (Offerings.Refused r) = 0
+abbrev pub characters_of : Result ℕ Refusal → ℕ
+characters_of (Ok n) = n
+characters_of (Err r) = 0
 
 -- a sender with these settings, the latest accepted clock and what waits: no check of an offer looks at the rest
 abbrev pub sender_where : Settings → ℕ → List ℕ → State.Sender
@@ -39,16 +36,16 @@ sender_where s latest waiting = record {
 abbrev pub end_of : ℕ → ℕ → ℕ
 end_of room len = room_of room * room_size + min len room_size
 
-abbrev pub texts_by : Outcome → ℕ → ℕ → List ℕ → List ℕ → List ℕ
-texts_by Accepted room len x texts = over_at (end_of room len) x texts
-texts_by (Refused r) room len x texts = texts
+abbrev pub texts_by : Result Unit Refusal → ℕ → ℕ → List ℕ → List ℕ → List ℕ
+texts_by (Ok _) room len x texts = over_at (end_of room len) x texts
+texts_by (Err r) room len x texts = texts
 
-abbrev pub characters_by : Outcome → List ℕ → ℕ
-characters_by Accepted x = characters x
-characters_by (Refused r) x = 0
+abbrev pub characters_by : Result Unit Refusal → List ℕ → ℕ
+characters_by (Ok _) x = characters x
+characters_by (Err r) x = 0
 
 -- the number is that of 01's answer, the characters are those of the text, and each byte of the texts is told; so many are lent
-pub record Judges (s : Settings) (latest room len t : ℕ) (x texts : List ℕ) (r : Offered) (texts' : List ℕ) : Type 0 where
+pub record Judges (s : Settings) (latest room len t : ℕ) (x texts : List ℕ) (r : Result ℕ Refusal) (texts' : List ℕ) : Type 0 where
   pub number : outcome_number (outcome_of r) ≡ (offer_of (sender_where s latest (waiting_in texts room len)) t x).number
   pub counted : characters_of r ≡ characters_by (outcome_of r) x
   pub bytes : texts' ≡ texts_by (outcome_of r) room len x texts

@@ -1,101 +1,16 @@
-// Judges text that is offered to a sender, and writes it behind what waits.
+// Judges text that is offered to a sender, and writes it after what waits.
 #![tactic(auto)]
 
-ghost use Rattle.std.specs.Prelude.{◌≡◌, length, ◌+◌, ◌≤◌};
-ghost use Rattle.packet.specs.Refusal.{is_refused};
-ghost use Rattle.slots.specs.Slots.{texts_size, over_at};
-ghost use Rattle.offer.specs.Offer.{outcome_of, characters_of, Judges};
+ghost use Rattle.std.specs.Prelude.{◌≡◌};
+ghost use Rattle.offer.specs.Offer.{Judges};
 
-use numbers::least;
-use packet::{Outcome, Refusal};
+use packet::Refusal;
 use settings::Settings;
 use slots::{Texts, Waiting};
-use text::Text;
-
-// What an offer comes to: its text joins what waits, so many characters, or it is refused.
-#[derive(Clone, Copy)]
-pub enum Offered {
-    Joined(usize),
-    Refused(Refusal),
-}
-
-impl Offered {
-    pub fn is_refused(self) -> bool
-        ensures { result ≡ is_refused (outcome_of self) }
-    {
-        match self {
-            Offered::Joined(_) => false,
-            Offered::Refused(_) => true,
-        }
-    }
-
-    pub fn outcome(self) -> Outcome
-        ensures { result ≡ outcome_of self }
-    {
-        match self {
-            Offered::Joined(_) => Outcome::Accepted,
-            Offered::Refused(refusal) => Outcome::Refused(refusal),
-        }
-    }
-
-    // How many characters joined; 0 where it is refused.
-    pub fn characters(self) -> usize
-        ensures { result ≡ characters_of self }
-    {
-        match self {
-            Offered::Joined(n) => n,
-            Offered::Refused(_) => 0,
-        }
-    }
-}
-
-// Writes text at a place of the texts.
-fn put(texts: &mut [u8], at: usize, text: &[u8])
-    requires { at + length text.now ≤ length texts.old }
-    ensures { texts.new ≡ over_at at text.now texts.old }
-{
-    copying::copy(text, &mut texts[at..]);
-}
-
-fn judge_in(
-    settings: Settings,
-    latest: u64,
-    waiting: Waiting,
-    clock: u64,
-    text: &[u8],
-    texts: &mut [u8],
-) -> Offered
-    requires { length texts.old ≡ texts_size }
-    ensures { Judges settings latest waiting.room waiting.len clock text.now texts.old result texts.new }
-{
-    let outcome = settings::settings_outcome(settings);
-    match outcome {
-        Outcome::Refused(refusal) => return Offered::Refused(refusal),
-        Outcome::Accepted => {}
-    }
-    if clock < latest {
-        return Offered::Refused(Refusal::Clock);
-    }
-    if text.len() == 0 {
-        return Offered::Refused(Refusal::NoText);
-    }
-    match text::text_of(text) {
-        Text::Stops(_) => Offered::Refused(Refusal::Text),
-        Text::Characters(characters) => {
-            let len = least(waiting.len, Texts::ROOM);
-            if Texts::ROOM < len + text.len() {
-                return Offered::Refused(Refusal::WaitingRoom);
-            }
-            let room = slots::room_of(waiting.room);
-            let at = room * Texts::ROOM + len;
-            put(texts, at, text);
-            Offered::Joined(characters)
-        }
-    }
-}
 
 // Judges an offer to a sender with these settings, this latest accepted clock and what waits; where it is accepted, its text is
-// written behind what waits.
+// written after what waits. So many characters join.
+#[tactic(auto, using(packet::proofs::Names::number_positive, slots::proofs::Slots::waiting_length), unfolding(packet_spec::specs::Limits::level, sender_spec::specs::Calls::offer_of))]
 pub fn judge(
     settings: Settings,
     latest: u64,
@@ -103,8 +18,25 @@ pub fn judge(
     clock: u64,
     text: &[u8],
     texts: &mut [u8; Texts::SIZE],
-) -> Offered
+) -> Result<usize, Refusal>
     ensures { Judges settings latest waiting.room waiting.len clock text.now texts.old result texts.new }
 {
-    judge_in(settings, latest, waiting, clock, text, texts)
+    settings::settings_outcome(settings)?;
+    if clock < latest {
+        return Err(Refusal::Clock);
+    }
+    if text.len() == 0 {
+        return Err(Refusal::NoText);
+    }
+    let Ok(characters) = text::text_of(text) else {
+        return Err(Refusal::Text);
+    };
+    let len = waiting.len.min(Texts::ROOM);
+    if Texts::ROOM < len + text.len() {
+        return Err(Refusal::WaitingRoom);
+    }
+    let room = slots::room_of(waiting.room);
+    let at = room * Texts::ROOM + len;
+    texts[at..at + text.len()].copy_from_slice(text);
+    Ok(characters)
 }

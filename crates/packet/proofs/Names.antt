@@ -4,13 +4,12 @@ use mathlib.Core.Path.{◌≡◌, ◌∙◌, refl, ap, sym}
 use mathlib.Core.Bool.{cond}
 use native.Mathlib.Omega.{arith}
 use lib.Dec.{eqb}
-use Rattle.packet.specs.declared.Outcome.{Outcome}
-use Rattle.packet.specs.declared.Outcome.TheVariants.{Accepted, Refused}
-use Rattle.packet.specs.declared.Reading.{Reading}
+use Rattle.std.specs.Prelude.{Result, Ok, Err}
+use Rattle.packet.specs.declared.Packet.{Packet}
 use Rattle.packet.specs.declared.Refusal.{Refusal}
 use Rattle.packet.specs.declared.Refusal.TheVariants.{Level, Buffering, PayloadTypes, WaitingRoom, Clock, Text, NoText, Space, Rate, Short, Long, Version, Header, Padding, PayloadType, Source, BlockHeaders, BlockCount, BlockType, BlockLengths, BlockText, BlockAges, HeldPacket}
-use Rattle.packet.specs.Refusal.{number, outcome_number}
-use Rattle.packet.specs.Places.{numbered}
+use Rattle.packet.specs.Refusal.{number}
+use Rattle.packet.specs.Places.{ReadResult, numbered}
 
 -- the refusal of a number
 abbrev named : ℕ → Refusal
@@ -92,14 +91,15 @@ number_positive HeldPacket = omega arith
 pub number_names : (a b : Refusal) → number a ≡ number b → a ≡ b
 number_names a b e = sym (named_number a) ∙ ap named e ∙ named_number b
 
-outcome_names : (a b : Outcome) → outcome_number a ≡ outcome_number b → a ≡ b
-outcome_names Accepted Accepted e = refl
-outcome_names Accepted (Refused r) e = absurd (omega (arith, number_positive r))
-outcome_names (Refused r) Accepted e = absurd (omega (arith, number_positive r))
-outcome_names (Refused a) (Refused b) e = ap Refused (number_names a b e)
-
 -- two answers with one number and one packet are one answer
-pub numbered_names : (x y : Reading) → numbered x ≡ numbered y → x ≡ y
-numbered_names x y e =
-    let o : x.outcome ≡ y.outcome = outcome_names x.outcome y.outcome (ap (λ n. n.number) e) in
-    λ i. record { outcome = o i; packet = (e i).packet }
+pub numbered_names : (x y : Result Packet Refusal) → numbered x ≡ numbered y → x ≡ y
+numbered_names (Ok p) (Ok q) e = ap (λ (r : ReadResult). Ok r.packet) e
+numbered_names (Ok p) (Err r) e = absurd (differ r (ap (λ (x : ReadResult). x.number) e))
+  where
+    differ : (r : Refusal) → 0 ≡ number r → ⊥
+    differ r e = omega (arith, number_positive r)
+numbered_names (Err r) (Ok p) e = absurd (differ r (ap (λ (x : ReadResult). x.number) e))
+  where
+    differ : (r : Refusal) → number r ≡ 0 → ⊥
+    differ r e = omega (arith, number_positive r)
+numbered_names (Err a) (Err b) e = ap Err (number_names a b (ap (λ (x : ReadResult). x.number) e))

@@ -1,9 +1,7 @@
 -- The number of each refusal: 01's "Refusal numbers", and 02's 9, 22 and 27.
-use Rattle.std.specs.Prelude.{ℕ, Bool, true, false}
+use Rattle.std.specs.Prelude.{ℕ, Result, Ok, Err}
 use Rattle.packet.specs.declared.Refusal.{Refusal}
 use Rattle.packet.specs.declared.Refusal.TheVariants.{Level, Buffering, PayloadTypes, WaitingRoom, Clock, Text, NoText, Space, Rate, Short, Long, Version, Header, Padding, PayloadType, Source, BlockHeaders, BlockCount, BlockType, BlockLengths, BlockText, BlockAges, HeldPacket}
-use Rattle.packet.specs.declared.Outcome.{Outcome}
-use Rattle.packet.specs.declared.Outcome.TheVariants.{Accepted, Refused}
 
 abbrev pub number : Refusal → ℕ
 number Level = 1
@@ -31,10 +29,6 @@ number BlockAges = 22
 number HeldPacket = 27
 
 -- 0 where a call is accepted
-abbrev pub outcome_number : Outcome → ℕ
-outcome_number Accepted = 0
-outcome_number (Refused r) = number r
-
-abbrev pub is_refused : Outcome → Bool
-is_refused Accepted = false
-is_refused (Refused r) = true
+abbrev pub outcome_number : Result Unit Refusal → ℕ
+outcome_number (Ok _) = 0
+outcome_number (Err r) = number r

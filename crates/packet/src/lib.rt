@@ -1,13 +1,12 @@
-// A packet of an RTP text line as the reader hands it over: its fields, the places of its blocks, or its refusal.
+// A packet of an RTP text line as the reader hands it over: its fields and the places of its blocks; and the refusals.
 #![tactic(auto)]
 
 ghost use Rattle.std.specs.Prelude.{◌≡◌};
 ghost use Rattle.base.specs.Arrays as Arrays;
-ghost use Rattle.packet.specs.Refusal.{number, is_refused};
-ghost use Rattle.packet.specs.Places.{numbered, refused_answer};
+ghost use Rattle.packet.specs.Refusal.{number, outcome_number};
 
 // The refusals of 01 and 02, in the order of their numbers.
-#[derive(Clone, Copy)]
+#[derive(Clone, Copy, PartialEq, Eq)]
 pub enum Refusal {
     Level,
     Buffering,
@@ -34,12 +33,11 @@ pub enum Refusal {
     HeldPacket,
 }
 
-impl Refusal {
-    // Its number.
-    pub fn number(self) -> u8
-        ensures { result ≡ number self }
-    {
-        match self {
+impl From<Refusal> for u8 {
+    ghost from_gives = { λ r n. n ≡ number r };
+
+    fn from(refusal: Refusal) -> u8 {
+        match refusal {
             Refusal::Level => 1,
             Refusal::Buffering => 2,
             Refusal::PayloadTypes => 3,
@@ -67,28 +65,14 @@ impl Refusal {
     }
 }
 
-#[derive(Clone, Copy)]
-pub enum Outcome {
-    Accepted,
-    Refused(Refusal),
-}
-
-impl Outcome {
-    pub fn is_refused(self) -> bool
-        ensures { result ≡ is_refused self }
-    {
-        match self {
-            Outcome::Accepted => false,
-            Outcome::Refused(_) => true,
-        }
+// 01's number, 0 where a call is accepted.
+pub fn number_of(outcome: Result<(), Refusal>) -> u8
+    ensures { result ≡ outcome_number outcome }
+{
+    match outcome {
+        Ok(()) => 0,
+        Err(refusal) => u8::from(refusal),
     }
-}
-
-// The source that a packet must have.
-#[derive(Clone, Copy)]
-pub enum Expected {
-    Any,
-    Only(u32),
 }
 
 // What an accepted packet holds: the M bit, 0 or 1, so many older blocks, oldest first, from `first` on, and the primary from
@@ -118,38 +102,5 @@ impl Packet {
 pub fn part(bytes: &[u8], from: usize, to: usize) -> &[u8]
     ensures { result.now ≡ Arrays.part from to bytes.now }
 {
-    if to < from {
-        return &bytes[..0];
-    }
-    if bytes.len() < to {
-        return &bytes[..0];
-    }
-    &bytes[from..to]
-}
-
-// The outcome, and the packet; all zeros where it is refused.
-#[derive(Clone, Copy)]
-pub struct Reading {
-    pub outcome: Outcome,
-    pub packet: Packet,
-}
-
-impl Reading {
-    pub fn refused(refusal: Refusal) -> Reading
-        ensures { numbered result ≡ refused_answer (number refusal) }
-    {
-        Reading {
-            outcome: Outcome::Refused(refusal),
-            packet: Packet {
-                marker: 0,
-                sequence: 0,
-                timestamp: 0,
-                source: 0,
-                count: 0,
-                first: 0,
-                primary: 0,
-                end: 0,
-            },
-        }
-    }
+    bytes.get(from..to).unwrap_or(&[])
 }

@@ -1,9 +1,10 @@
 // Where in a record the reading of a journal is, and what follows a record's bytes.
 #![tactic(auto)]
 
-ghost use Rattle.std.specs.Prelude.{◌≡◌, cond, ◌&&◌, ◌+◌, ◌*◌, ◌<◌, ltb, leb};
+ghost use Rattle.std.specs.Prelude.{◌≡◌, cond, ◌+◌, ◌*◌, ◌<◌, ◌==◌, ltb};
+ghost use Rattle.std.specs.List.{list_all};
 ghost use Rattle.packet_spec.specs.Header.{types_bad};
-ghost use Rattle.journal_spec.specs.Contents.{longest_packet, are_zeros};
+ghost use Rattle.journal_spec.specs.Contents.{longest_packet};
 ghost use Rattle.parts.specs.Bytes.{going, kind_of, piece_end};
 ghost use Rattle.parts.specs.Sound.{whole_pieces, sound_part};
 
@@ -36,49 +37,33 @@ impl Part {
     pub fn is_going(self) -> bool
         ensures { result ≡ going self }
     {
-        match self {
-            Part::Opened(_, _) => false,
-            Part::Packet => false,
-            Part::Ended => false,
-            Part::Broken => false,
-            _ => true,
-        }
+        !matches!(
+            self,
+            Part::Opened(..) | Part::Packet | Part::Ended | Part::Broken
+        )
     }
 }
 
-// Behind a kind byte.
+// After a kind byte.
 pub fn kind(opened: bool, inside: bool, b: u8) -> Part
     ensures { result ≡ kind_of opened inside b }
 {
-    if inside {
-        if b == 3 {
-            return Part::Piece(Part::PIECE);
-        }
-        return Part::Broken;
+    match b {
+        3 if inside => Part::Piece(Part::PIECE),
+        _ if inside => Part::Broken,
+        4 => Part::Time(Part::TIME),
+        2 if opened => Part::Length,
+        0 if opened => Part::Ended,
+        1 if !opened => Part::Types,
+        _ => Part::Broken,
     }
-    if b == 4 {
-        return Part::Time(Part::TIME);
-    }
-    if opened {
-        if b == 2 {
-            return Part::Length;
-        }
-        if b == 0 {
-            return Part::Ended;
-        }
-        return Part::Broken;
-    }
-    if b == 1 {
-        return Part::Types;
-    }
-    Part::Broken
 }
 
 // A packet's length, by its two bytes.
 pub fn length(high: u8, low: u8) -> usize
     ensures { (result ≡ high * 256 + low) × (result < 65536) }
 {
-    numbers::be16(high, low) as usize
+    u16::from_be_bytes([high, low]).into()
 }
 
 pub fn is_too_long(n: usize) -> bool
@@ -87,85 +72,54 @@ pub fn is_too_long(n: usize) -> bool
     Part::LONGEST < n
 }
 
-// Behind an open.
+// After an open.
 pub fn opening(t140: u8, red: u8) -> Part
     ensures { result ≡ cond (types_bad t140 red) Part.Broken (Part.Opened t140 red) }
 {
-    let bad = header::types_bad(t140, red);
-    if bad {
-        return Part::Broken;
+    if header::types_bad(t140, red) {
+        Part::Broken
+    } else {
+        Part::Opened(t140, red)
     }
-    Part::Opened(t140, red)
 }
 
 fn are_zeros(s: &[u8]) -> bool
-    ensures { result ≡ are_zeros s.now }
+    ensures { result ≡ list_all (λ b. b == 0) s.now }
 {
-    let mut i = 0;
-    while i < s.len() {
-        if s[i] != 0 {
-            return false;
-        }
-        i += 1;
-    }
-    true
+    s.iter().all(|b| *b == 0)
 }
 
-// Behind a whole piece: more follow, or the packet is whole, or its filling is not zeros.
+// After a whole piece: more follow, or the packet is whole, or its filling is not zeros.
 pub fn piece_end(size: usize, pieces: &[u8]) -> Part
     ensures { result ≡ piece_end size pieces.now }
 {
     if pieces.len() < size {
-        return Part::Kind;
+        Part::Kind
+    } else if are_zeros(&pieces[size..]) {
+        Part::Packet
+    } else {
+        Part::Broken
     }
-    if are_zeros(&pieces[size..]) {
-        return Part::Packet;
-    }
-    Part::Broken
 }
 
 fn whole_pieces(n: usize) -> bool
     ensures { result ≡ whole_pieces n }
 {
-    if Part::LONGEST < n {
-        return false;
-    }
-    n % Part::PIECE == 0
-}
-
-fn and_whole(ok: bool, n: usize) -> bool
-    ensures { result ≡ (ok && whole_pieces n) }
-{
-    if ok {
-        return whole_pieces(n);
-    }
-    false
-}
-
-// n bytes of a piece are to come behind `at` others.
-fn is_under_way(n: usize, at: usize) -> bool
-    ensures { result ≡ (leb 1 n && whole_pieces (at + n)) }
-{
-    if Part::LONGEST < n {
-        return false;
-    }
-    if Part::LONGEST < at {
-        return false;
-    }
-    and_whole(1 <= n, at + n)
+    n <= Part::LONGEST && n % Part::PIECE == 0
 }
 
 // Whether reading can go on from a part with `at` bytes of the pieces of a packet of `size` bytes.
 pub fn is_sound(part: Part, size: usize, at: usize) -> bool
     ensures { result ≡ sound_part part size at }
 {
-    if Part::LONGEST < size {
-        return false;
-    }
-    match part {
-        Part::Piece(n) => is_under_way(n, at),
-        Part::Time(n) => and_whole(1 <= n, at),
-        Part::Packet => and_whole(size <= at, at),
-        _ => whole_pieces(at),
-    }
+    size <= Part::LONGEST
+        && match part {
+            // n bytes of a piece are to come after `at` others.
+            Part::Piece(n) => {
+                1 <= n && n <= Part::LONGEST && at <= Part::LONGEST && whole_pieces(at + n)
+            }
+            Part::Time(n) => 1 <= n && whole_pieces(at),
+            Part::Packet => size <= at && whole_pieces(at),
+            _ => whole_pieces(at),
+        }
 }

@@ -159,6 +159,21 @@ module _ (n : ℕ) (s p₀ : List ℕ) (count : ℕ) (p : List ℕ) (g : Gathere
       stands = put_is ∙ ap (λ (l : List ℕ). over l p₀) (sym (joined_append g.pieces x));
     }
 
+-- the record that stands at place k: its first byte, and its other ones put into p
+pub front_kind : (k : ℕ) (s : List ℕ) → get_or (take 17 (drop k s)) 0 0 ≡ get_or s k 0
+front_kind k s = let z : k + 0 ≡ k = omega arith in first (drop k s) ∙ get_or-drop k s 0 0 ∙ ap (λ (j : ℕ). get_or s j 0) z
+  where
+    first : (x : List ℕ) → get_or (take 17 x) 0 0 ≡ get_or x 0 0
+    first [] = refl
+    first (b ∷ x) = refl
+
+pub front_put : (k : ℕ) (s p : List ℕ) (a : ℕ) → paste p a (drop 1 (take 17 (drop k s))) 16 ≡ paste p a (drop (k + 1) s) 16
+front_put k s p a = ap (λ (x : List ℕ). take a p ++ x ++ drop (a + 16) p) (behind (drop k s) ∙ ap (take 16) (drop-drop 1 k s))
+  where
+    behind : (x : List ℕ) → take 16 (drop 1 (take 17 x)) ≡ take 16 (drop 1 x)
+    behind [] = refl
+    behind (b ∷ x) = take-take 16 16 x (omega arith)
+
 -- what stands first
 pub data First (n : ℕ) (s : List ℕ) : Type 0 where
   no : pieces_first (suc n) s ≡ [] → First n s

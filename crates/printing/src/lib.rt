@@ -1,4 +1,4 @@
-// Marks and text, put into the front of a lent space as far as they fit; the bytes behind them stay.
+// Marks and text, put into the front of a lent space as far as they fit; the bytes after them stay.
 #![tactic(auto)]
 
 ghost use Rattle.std.specs.Prelude.{◌≡◌, ◌≤◌, length};
@@ -11,8 +11,9 @@ use marks::LossMark;
 pub fn put(text: &[u8], space: &mut [u8]) -> usize
     ensures { (result ≡ length (fitting text.now space.old)) × (space.new ≡ over (fitting text.now space.old) space.old) × (result ≤ length space.old) }
 {
-    let n = numbers::least(text.len(), space.len());
-    copying::copy(&text[..n], space)
+    let n = text.len().min(space.len());
+    space[..n].copy_from_slice(&text[..n]);
+    n
 }
 
 // How many marks and how many bytes of text were put.
@@ -22,22 +23,19 @@ pub struct Printed {
     pub text: usize,
 }
 
-// Whole marks, and the text behind them once all are put.
+// Whole marks, and the text after them once all are put.
 pub fn put_due(marks: usize, text: &[u8], space: &mut [u8]) -> Printed
     ensures marks_value { (result.marks ≡ marks_fitting marks (length space.old)) × (result.text ≡ text_fitting marks text.now (length space.old)) }
     ensures space_after { space.new ≡ over (due_fitting marks text.now (length space.old)) space.old }
 {
     let written = marks::write_marks(marks, space);
-    if written < marks {
-        return Printed {
-            marks: written,
-            text: 0,
-        };
-    }
-    let at = LossMark::SIZE * written;
-    let n = put(text, &mut space[at..]);
+    let text = if written < marks {
+        0
+    } else {
+        put(text, &mut space[LossMark::SIZE * written..])
+    };
     Printed {
         marks: written,
-        text: n,
+        text,
     }
 }

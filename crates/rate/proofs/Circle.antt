@@ -9,6 +9,7 @@ use lib.ListN.{set}
 use borrow.Author.Tests.{lt-ltb, le-ltb, ltb-true, ltb-false}
 use Rattle.base.proofs.Tests.{by_test}
 use Rattle.sender_spec.specs.Limits.{highest_rate}
+use Rattle.circle.specs.Circle.{after}
 use Rattle.rate.specs.Circle.{slots_of, slot_at, slot_back, around, spent_from}
 
 -- a rate that is accepted has a slot for each character of the window
@@ -34,6 +35,11 @@ module _ (n : ℕ) where
   pub around_inside : (at : ℕ) → at < n + n → around n at < n
   around_inside at h =
       by_test (λ (k : ℕ). k < n) (ltb at n) (λ e. ltb-true at n e) (λ e. let l : n ≤ at = ltb-false at n e in omega arith)
+
+  pub after_place : (at : ℕ) → at < n → around n (at + 1) ≡ after n at
+  after_place at h =
+      by_test (λ (k : ℕ). around n (at + 1) ≡ k) (ltb (at + 1) n) (λ e. around_stays (at + 1) (ltb-true (at + 1) n e))
+      (λ e. let l : n ≤ at + 1 = ltb-false (at + 1) n e in around_back (at + 1) l ∙ (omega arith))
 
   -- a slot stays, and so does the 0 where there is none
   pub slot_stays : (next : ℕ) → around n (slot_at n next) ≡ slot_at n next

@@ -2,6 +2,8 @@
 use Rattle.std.specs.Prelude.{ℕ, zero, suc, ◌+◌, ◌-◌, ◌*◌, min, List, map, cond, ltb, get_or, set}
 use Rattle.delivery.specs.Sending.{range}
 use Rattle.sender_spec.specs.Limits.{highest_rate}
+use Rattle.circle.specs.Circle as Places
+use Rattle.circle.specs.Circle.{place}
 use Rattle.rate.specs.declared.Pace.{Pace}
 
 -- one for each character that a window may have
@@ -14,7 +16,7 @@ log_size = slots_of highest_rate
 
 -- the next slot; 0 where the number is none of a slot
 abbrev pub slot_at : ℕ → ℕ → ℕ
-slot_at n next = cond (ltb next n) next 0
+slot_at n next = place n next
 
 -- the slot j + 1 before
 abbrev pub slot_back : ℕ → ℕ → ℕ → ℕ
@@ -29,7 +31,7 @@ times_in n log next used = times_back n log (slot_at n next) (min used n)
 
 -- a place that is at most a whole circle further than a slot
 abbrev pub around : ℕ → ℕ → ℕ
-around n at = cond (ltb at n) at (at - n)
+around n at = Places.around n at
 
 -- k slots in a row
 abbrev pub spent_from : ℕ → List ℕ → ℕ → ℕ → ℕ → List ℕ

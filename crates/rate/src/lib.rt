@@ -1,9 +1,9 @@
 // How many characters may leave, by the times of the last ones, in a log lent to a sender.
 #![tactic(auto)]
 
-ghost use Rattle.std.specs.Prelude.{◌≡◌, length, ◌+◌, ◌-◌, ◌≤◌, ◌<◌, min};
+ghost use Rattle.std.specs.Prelude.{◌≡◌, length, ◌≤◌, ◌<◌, min};
 ghost use Rattle.sender_spec.specs.Rate.{fits, allowed};
-ghost use Rattle.rate.specs.Circle.{slots_of, log_size, slot_at, times_back, times_in, around, spent_from, spent_in, used_after, pace_after};
+ghost use Rattle.rate.specs.Circle.{slots_of, log_size, times_back, times_in, spent_in, pace_after};
 
 use settings::Settings;
 
@@ -22,27 +22,7 @@ impl Log {
 fn slots_of(rate: usize) -> usize
     ensures { (result ≡ slots_of rate) × (result ≤ 1000) }
 {
-    10 * numbers::least(rate, Settings::HIGHEST_RATE)
-}
-
-// The next slot; 0 where the number is none of a slot.
-fn slot_at(slots: usize, next: usize) -> usize
-    ensures { result ≡ slot_at slots next }
-{
-    if next < slots {
-        return next;
-    }
-    0
-}
-
-// A place behind a slot, by at most a whole circle.
-fn around(slots: usize, at: usize) -> usize
-    ensures { result ≡ around slots at }
-{
-    if at < slots {
-        return at;
-    }
-    at - slots
+    10 * rate.min(Settings::HIGHEST_RATE)
 }
 
 // Whether so many characters may leave: the last would take an empty slot, or one whose time lies before the window.
@@ -60,50 +40,13 @@ fn may_leave(
     if used <= slots - characters {
         return true;
     }
-    let slot = around(slots, at + characters - 1);
-    Log::WINDOW < numbers::passed(clock, log[slot])
-}
-
-// The slot behind a slot.
-fn onward(slots: usize, at: usize) -> usize
-    requires { (slots ≤ 1000) × (at < slots) }
-    ensures { result ≡ around slots (at + 1) }
-{
-    if at + 1 < slots {
-        return at + 1;
-    }
-    0
-}
-
-// Writes the clock to so many slots in a row; the slot behind them.
-fn spend_in(slots: usize, log: &mut [u64], next: usize, clock: u64, more: usize) -> usize
-    requires { (slots ≤ 1000) × (slots ≤ length log.old) × (more ≤ slots) }
-    ensures { (result ≡ around slots (slot_at slots next + more)) × (log.new ≡ spent_from slots log.old (slot_at slots next) clock more) }
-{
-    let mut at = slot_at(slots, next);
-    let mut left = more;
-    while 0 < left {
-        log[at] = clock;
-        at = onward(slots, at);
-        left -= 1;
-    }
-    at
-}
-
-// How many slots are used behind so many characters more.
-fn used_after(slots: usize, used: usize, more: usize) -> usize
-    requires { more ≤ slots }
-    ensures { result ≡ used_after slots used more }
-{
-    if used <= slots - more {
-        return used + more;
-    }
-    slots
+    let slot = circle::around(slots, at + characters - 1);
+    Log::WINDOW < clock.saturating_sub(log[slot])
 }
 
 // The next slot, and how many were used.
 #[repr(C)]
-#[derive(Clone, Copy)]
+#[derive(Clone, Copy, Default)]
 pub struct Pace {
     pub next: usize,
     pub used: usize,
@@ -121,22 +64,20 @@ impl Pace {
         ensures { result ≡ allowed (slots_of rate) (times_in (slots_of rate) log.now self.next self.used) clock characters }
     {
         let slots = slots_of(rate);
-        let used = self.used;
-        let mut most = numbers::least(characters, slots);
-        if used <= slots - most {
+        let most = characters.min(slots);
+        if self.used <= slots - most {
             return most;
         }
-        let at = slot_at(slots, self.next);
-        while 0 < most {
-            if may_leave(slots, log, at, used, clock, most) {
-                return most;
+        let at = circle::place(slots, self.next);
+        for fewer in (0..most).rev() {
+            if may_leave(slots, log, at, self.used, clock, fewer + 1) {
+                return fewer + 1;
             }
-            most -= 1;
         }
         0
     }
 
-    // Writes the clock to the slots of so many characters; the pace behind them. So many times are lent.
+    // Writes the clock to the slots of so many characters; the pace after them. So many times are lent.
     pub fn spend(
         self,
         rate: usize,
@@ -147,9 +88,13 @@ impl Pace {
         ensures { (result ≡ pace_after self rate characters) × (log.new ≡ spent_in (slots_of rate) log.old self.next clock characters) × (length log.old ≡ log_size) }
     {
         let slots = slots_of(rate);
-        let more = numbers::least(characters, slots);
-        let next = spend_in(slots, log, self.next, clock, more);
-        let used = used_after(slots, self.used, more);
+        let more = characters.min(slots);
+        let mut next = circle::place(slots, self.next);
+        for _ in 0..more {
+            log[next] = clock;
+            next = circle::after(slots, next);
+        }
+        let used = self.used.saturating_add(more).min(slots);
         Pace { next, used }
     }
 }

@@ -5,44 +5,29 @@ ghost use Rattle.std.specs.Prelude.{◌≡◌};
 ghost use Rattle.packet_spec.specs.Header.{Any};
 ghost use Rattle.packet.specs.Places.{expected_source, numbered, read_of};
 
-use packet::{Expected, Outcome, Packet, Reading};
+use packet::{Packet, Refusal};
 
-// Reads a packet of the source that is expected.
-pub fn read_from(expected: Expected, t140: u8, red: u8, packet: &[u8]) -> Reading
+// Reads a packet of the source that is expected; of any where none is.
+pub fn read_from(expected: Option<u32>, t140: u8, red: u8, packet: &[u8]) -> Result<Packet, Refusal>
     ensures { numbered result ≡ read_of (expected_source expected) t140 red packet.now }
 {
-    let header = header::read(expected, t140, red, packet);
-    let judged = header.outcome;
-    match judged {
-        Outcome::Refused(refusal) => return Reading::refused(refusal),
-        Outcome::Accepted => {}
-    }
-    let blocks = blocks::read(header.plain, t140, packet, header.from, header.end);
-    let outcome = blocks.outcome;
-    match outcome {
-        Outcome::Refused(refusal) => Reading::refused(refusal),
-        Outcome::Accepted => {
-            let marker = numbers::byte_of(header.marker);
-            Reading {
-                outcome: Outcome::Accepted,
-                packet: Packet {
-                    marker,
-                    sequence: header.sequence,
-                    timestamp: header.timestamp,
-                    source: header.source,
-                    count: blocks.count,
-                    first: blocks.first,
-                    primary: blocks.primary,
-                    end: header.end,
-                },
-            }
-        }
-    }
+    let header = header::read(expected, t140, red, packet)?;
+    let blocks = blocks::read(header.plain, t140, packet, header.from, header.end)?;
+    Ok(Packet {
+        marker: u8::from(header.marker),
+        sequence: header.sequence,
+        timestamp: header.timestamp,
+        source: header.source,
+        count: blocks.count,
+        first: blocks.first,
+        primary: blocks.primary,
+        end: header.end,
+    })
 }
 
 // Reads a packet of any source.
-pub fn read(t140: u8, red: u8, packet: &[u8]) -> Reading
+pub fn read(t140: u8, red: u8, packet: &[u8]) -> Result<Packet, Refusal>
     ensures { numbered result ≡ read_of Any t140 red packet.now }
 {
-    read_from(Expected::Any, t140, red, packet)
+    read_from(None, t140, red, packet)
 }

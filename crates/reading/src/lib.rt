@@ -50,30 +50,21 @@ impl Reader {
     pub fn is_sound(self) -> bool
         ensures { result ≡ sound self }
     {
-        let part = self.part;
-        parts::is_sound(part, self.size, self.at)
+        parts::is_sound(self.part, self.size, self.at)
     }
 
-    // And the lent buffer has the space.
+    // And the lent buffer has the space. `records` and `journal` ask that by the buffer's type; a caller of a `Reader` asks here.
     pub fn is_ready(self, space: usize) -> bool
         ensures { result ≡ reader_ready self space }
     {
-        if space < Reader::BUFFER {
-            return false;
-        }
-        self.is_sound()
+        Reader::BUFFER <= space && self.is_sound()
     }
 
     // The same packet, at another place.
     pub fn with(self, part: Part, at: usize) -> Reader
         ensures { result ≡ with self part at }
     {
-        Reader {
-            opened: self.opened,
-            part,
-            size: self.size,
-            at,
-        }
+        Reader { part, at, ..self }
     }
 
     // A packet of n bytes begins.
@@ -83,14 +74,11 @@ impl Reader {
         if parts::is_too_long(n) {
             return self.with(Part::Broken, self.at);
         }
-        if n == 0 {
-            return Reader::outside(self.opened, Part::Packet);
-        }
         Reader {
-            opened: self.opened,
-            part: Part::Kind,
+            part: if n == 0 { Part::Packet } else { Part::Kind },
             size: n,
             at: 0,
+            ..self
         }
     }
 
@@ -105,13 +93,9 @@ impl Reader {
     fn next(self, b: u8) -> Reader
         ensures { result ≡ byte_of self b }
     {
-        let part = self.part;
-        match part {
+        match self.part {
             Part::Types => self.with(Part::Red(b), self.at),
-            Part::Red(a) => {
-                let next = parts::opening(a, b);
-                self.with(next, self.at)
-            }
+            Part::Red(a) => self.with(parts::opening(a, b), self.at),
             Part::Length => self.with(Part::Low(b), self.at),
             Part::Low(a) => self.begun(parts::length(a, b)),
             _ => self,
@@ -122,17 +106,9 @@ impl Reader {
     pub fn byte(self, b: u8) -> Done
         ensures { (result.reader ≡ byte_of self b) × (result.used ≡ cond (going self.part) 1 0) }
     {
-        let part = self.part;
-        let next = self.next(b);
-        if part.is_going() {
-            return Done {
-                reader: next,
-                used: 1,
-            };
-        }
         Done {
-            reader: next,
-            used: 0,
+            reader: self.next(b),
+            used: usize::from(self.part.is_going()),
         }
     }
 
@@ -140,24 +116,26 @@ impl Reader {
     pub fn time(self, n: usize, len: usize) -> Done
         ensures { (result.reader ≡ time_of self n (min n len)) × (result.used ≡ min n len) }
     {
-        let m = numbers::least(n, len);
-        if m < n {
-            let reader = self.with(Part::Time(n - m), self.at);
-            return Done { reader, used: m };
+        let used = n.min(len);
+        let part = if used < n {
+            Part::Time(n - used)
+        } else {
+            Part::Kind
+        };
+        Done {
+            reader: self.with(part, self.at),
+            used,
         }
-        let reader = self.with(Part::Kind, self.at);
-        Done { reader, used: m }
     }
 
     // Past what reading stopped at.
     pub fn past(self) -> Reader
         ensures { result ≡ past_of self }
     {
-        let part = self.part;
-        match part {
-            Part::Opened(_, _) => Reader::outside(true, Part::Kind),
+        match self.part {
+            Part::Opened(..) => Reader::outside(true, Part::Kind),
             Part::Packet => Reader::outside(self.opened, Part::Kind),
-            _ => Reader::outside(self.opened, part),
+            part => Reader::outside(self.opened, part),
         }
     }
 }

@@ -1,4 +1,4 @@
--- The signed distance as the code works it out, and the course by it.
+-- The signed distance in numbers of 16 bits, and the course by it.
 use Rattle.std.proofs.Common.{◌≡◌, ℕ, zero, suc, ◌+◌, ◌-◌, ◌<◌, ◌≤◌, Bool, true, false, cond, ltb, ℤ, pos, negsuc, ◌-ℤ◌, refl, ap, ◌∙◌, arith, w16, SFits, to_z, ltb-false, ltb-true, le-ltb, lt-ltb}
 use lib.Signed.{lt_z}
 use mir.Facts.{to_z_pos}
@@ -23,7 +23,7 @@ module _ (d : ℕ) where
   pub large_fits : half ≤ d → d < circle → SFits w16 (negsuc 0 -ℤ to_z w16 (circle - 1 - d))
   large_fits h k = rw (large_signed h k, le-ltb d half h) (record { sfits = omega arith })
 
--- the course by the signed distance, as the code branches on it
+-- the course by the signed distance: its sign, then the limits
 abbrev pub by_signed : ℤ → Bool → Course
 by_signed z kept =
     let far = cond kept break jump in

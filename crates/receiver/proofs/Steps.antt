@@ -1,8 +1,7 @@
 -- The step by the reader's answer.
 use Rattle.std.proofs.Common.{◌≡◌, ℕ, suc, ◌+◌, ◌-◌, ◌≤◌, Bool, true, false, cond, List, length, take, drop, ℤ, pos, sym, refl, ap, ◌∙◌, arith, length-append, le-ltb}
-use Rattle.packet.specs.declared.Outcome.TheVariants.{Accepted, Refused}
+use Rattle.std.specs.Prelude.{Ok, Err}
 use Rattle.packet.specs.declared.Packet.{Packet}
-use Rattle.packet.specs.declared.Reading.{Reading}
 use Rattle.packet.specs.declared.Refusal.{Refusal}
 use Rattle.packet_spec.specs.Limits.{level}
 use Rattle.packet_spec.specs.Header.{payload_end}
@@ -102,26 +101,26 @@ module _ (r : Receiver) (p : List ℕ) (c : Content) (l : Lies p c) (t : Headed 
     }
     read_given_lem = rw (le-ltb level (length c.older) small) gives_step
 
-module _ (r : Receiver) (p : List ℕ) (x : Reading) (e : numbered x ≡ read_of (source_expected r) r.t140 r.red p) where
-  pub refused_step : (k : Refusal) → x.outcome ≡ Refused k → record { receiver = r; answer = refuses (number k) } ≡ step_of r p
+-- the step of a packet that the reader refused, or read
+module _ (r : Receiver) (p : List ℕ) where
+  pub refused_step : (k : Refusal) → numbered (Err k) ≡ read_of (source_expected r) r.t140 r.red p → record { receiver = r; answer = refuses (number k) } ≡ step_of r p
   unfolding read_of step_of
-  refused_step k o = sym (ap (step_read r p) (was_refused_lem p x k (reading level (source_expected r) r.t140 r.red p) o e))
+  refused_step k e = sym (ap (step_read r p) (was_refused_lem p k (reading level (source_expected r) r.t140 r.red p) e))
 
-  pub was_read : x.outcome ≡ Accepted → (c : Content) × (reading level (source_expected r) r.t140 r.red p ≡ holds c) × (x.packet ≡ placed p c)
-  unfolding read_of
-  was_read o =
-      was_accepted p x (reading level (source_expected r) r.t140 r.red p)
-      (reading_positive level (source_expected r) r.t140 r.red p) o e
+  module _ (x : Packet) (e : numbered (Ok x) ≡ read_of (source_expected r) r.t140 r.red p) where
+    pub was_read : (c : Content) × (reading level (source_expected r) r.t140 r.red p ≡ holds c) × (x ≡ placed p c)
+    unfolding read_of
+    was_read =
+        was_accepted p x (reading level (source_expected r) r.t140 r.red p)
+        (reading_positive level (source_expected r) r.t140 r.red p) e
 
-  pub few_older : x.outcome ≡ Accepted → x.packet.count ≤ level
-  few_older o =
-      let h = was_read o in
-      omega (arith, ap (λ (k : Packet). k.count) h.2, few level (source_expected r) r.t140 r.red p h.0 h.1)
+    pub few_older : x.count ≤ level
+    few_older = omega (arith, ap (λ (k : Packet). k.count) was_read.2, few level (source_expected r) r.t140 r.red p was_read.0 was_read.1)
 
-  pub accepted_step_lem : x.outcome ≡ Accepted → accepted_step r p x.packet ≡ step_of r p
-  unfolding step_of
-  accepted_step_lem o =
-      let h = was_read o in
-      ap (accepted_step r p) h.2
-      ∙ same_step r p h.0 (lies level (source_expected r) r.t140 r.red p h.0 h.1) (headed level (source_expected r) r.t140 r.red p h.0 h.1)
-      ∙ sym (ap (step_read r p) h.1)
+    pub accepted_step_lem : accepted_step r p x ≡ step_of r p
+    unfolding step_of
+    accepted_step_lem =
+        let h = was_read in
+        ap (accepted_step r p) h.2
+        ∙ same_step r p h.0 (lies level (source_expected r) r.t140 r.red p h.0 h.1) (headed level (source_expected r) r.t140 r.red p h.0 h.1)
+        ∙ sym (ap (step_read r p) h.1)

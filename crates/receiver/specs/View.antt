@@ -1,13 +1,15 @@
 -- The receiver and its answers in the terms of the definitions.
-use Rattle.std.specs.Prelude.{ℕ, List, pos}
+use Rattle.std.specs.Prelude.{ℕ, List, [], Result, Ok, Err}
 use Rattle.receiver.specs.declared.Receiver as code
-use Rattle.receiver.specs.declared.Opened.{Opened}
+use Rattle.receiver.specs.declared.Given as answer
 use Rattle.receiver.specs.declared.Answer.{Answer}
-use Rattle.receiver.specs.declared.Answer.TheVariants.{Refused, Late, Jump, Break, Forward}
+use Rattle.receiver.specs.declared.Answer.TheVariants.{Late, Jump, Break, Forward}
 use Rattle.receiver.specs.declared.Advanced.{Advanced}
 use Rattle.receiver.specs.declared.Stepped.{Stepped}
-use Rattle.packet.specs.Refusal.{number, outcome_number}
-use Rattle.receiver_spec.specs.Answers.{Opening, Step, gives, is_break, is_jump, is_late, refuses, StepAnswer}
+use Rattle.packet.specs.declared.Refusal.{Refusal}
+use Rattle.packet.specs.Refusal.{number}
+use Rattle.receiver_spec.specs.Opening.{receiver_refused}
+use Rattle.receiver_spec.specs.Answers.{Given, Opening, Step, gives, is_break, is_jump, is_late, refuses, StepAnswer}
 use Rattle.receiver_spec.specs.State.{Receiver}
 use Rattle.receiver_spec.specs.Step.{step_of, text_given}
 
@@ -22,27 +24,42 @@ receiver_of r = record {
   kept = r.kept;
 }
 
-abbrev pub opening : Opened → Opening
-opening o = record { number = outcome_number o.outcome; receiver = receiver_of o.receiver }
+abbrev pub opening : Result code.Receiver Refusal → Opening
+opening (Ok r) = record { number = 0; receiver = receiver_of r }
+opening (Err e) = receiver_refused (number e)
 
--- 01's number and values for each case of an answer
+abbrev pub given_of : answer.Given → Given
+given_of g = record { loss = g.loss; distance = g.distance; older = g.older; given = g.given; from = g.from; to = g.to }
+
+-- 01's values for each case of an answer
 abbrev pub step_answer : Answer → StepAnswer
-step_answer (Refused r) = refuses (number r)
 step_answer (Late d) = is_late d
 step_answer (Jump d) = is_jump d
-step_answer (Break o g f t) = is_break (record { loss = 0; distance = pos 0; older = o; given = g; from = f; to = t })
-step_answer (Forward l d o g f t) = gives (record { loss = l; distance = d; older = o; given = g; from = f; to = t })
+step_answer (Break g) = is_break (given_of g)
+step_answer (Forward g) = gives (given_of g)
 
-abbrev pub advanced : Advanced → Step
-advanced a = record { receiver = receiver_of a.receiver; answer = step_answer a.answer }
+-- and 01's number of a refusal
+abbrev pub answered : Result Answer Refusal → StepAnswer
+answered (Ok a) = step_answer a
+answered (Err e) = refuses (number e)
+
+-- what an accepted packet makes of a receiver
+abbrev pub step_made : Advanced code.Receiver Answer → Step
+step_made a = record { receiver = receiver_of a.receiver; answer = step_answer a.answer }
+
+-- a step from this receiver, which a refusal leaves as it was
+abbrev pub advanced : Receiver → Result (Advanced code.Receiver Answer) Refusal → Step
+advanced r (Ok a) = step_made a
+advanced r (Err e) = record { receiver = r; answer = refuses (number e) }
 
 -- the step with its text: the receiver for the next packet, the answer, and the bytes handed out
 pub record Handed : Type 0 where
   pub step : Step
   pub text : List ℕ
 
-abbrev pub handed : Stepped → Handed
-handed s = record { step = record { receiver = receiver_of s.receiver; answer = step_answer s.answer }; text = s.text.now }
+abbrev pub handed : Receiver → Result (Stepped code.Receiver Answer) Refusal → Handed
+handed r (Ok s) = record { step = record { receiver = receiver_of s.receiver; answer = step_answer s.answer }; text = s.text.now }
+handed r (Err e) = record { step = record { receiver = r; answer = refuses (number e) }; text = [] }
 
 abbrev pub handed_of : Receiver → List ℕ → Handed
 handed_of r p = record { step = step_of r p; text = text_given p (step_of r p).answer }

@@ -2,218 +2,145 @@
 ghost use Rattle.std.specs.Prelude.{◌≡◌, ◌≤◌};
 ghost use Rattle.packet_spec.specs.Limits.{level};
 ghost use Rattle.delivery.specs.Course as Course;
+ghost use Rattle.delivery.specs.Course.{forward};
 ghost use Rattle.delivery.specs.Numbers as Numbers;
-ghost use Rattle.receiver_spec.specs.Distance as Distance;
-ghost use Rattle.receiver_spec.specs.State.{kept_by};
 ghost use Rattle.receiver_spec.specs.Step.{moved_to};
-ghost use Rattle.receiver.specs.Internal.Accepted.{followed, followed_at, leapt, later_accepted, accepted_step, gave_step};
-ghost use Rattle.receiver.specs.View.{receiver_of, advanced};
+ghost use Rattle.receiver.specs.Internal.Accepted.{followed, leapt, later_by, later_accepted, accepted_step, gave_step};
+ghost use Rattle.receiver.specs.View.{receiver_of, step_made};
 
-use crate::{Advanced, Answer, Receiver};
+use crate::{Advanced, Answer, Given, Receiver};
 use packet::Packet;
 
-// How far ahead of the expected number a packet is, wrapped.
-pub fn ahead(sequence: u16, expected: u16) -> u16
-    ensures { result ≡ Course.distance sequence expected }
-{
-    std::num::wrapping_sub_u16(sequence, expected)
-}
-
-// The same as a signed number: below 0 where the packet is behind the expected one.
-pub fn signed(d: u16) -> i16
-    ensures { result ≡ Distance.signed d }
-{
-    if d < 32768 {
-        return d as i16;
-    }
-    let left = 65535 - d;
-    -1 - (left as i16)
+// A packet that was read, with its bytes, and the receiver that it comes to.
+#[derive(Clone, Copy)]
+pub struct Arrived<'a> {
+    pub receiver: Receiver,
+    pub bytes: &'a [u8],
+    pub packet: Packet,
+    ghost few_older: { packet.count ≤ level },
 }
 
 fn next(sequence: u16) -> u16
     ensures { result ≡ Numbers.next sequence }
 {
-    std::num::wrapping_add_u16(sequence, 1)
+    sequence.wrapping_add(1)
 }
 
-fn loss_of(d: u16, older: usize) -> u16
-    ensures { result ≡ Course.loss d older }
-{
-    let missing = d as usize;
-    if missing <= older {
-        return 0;
-    }
-    (missing - older) as u16
-}
-
-fn wanted_of(d: u16, older: usize) -> usize
-    ensures { result ≡ Course.wanted d older }
-{
-    let missing = d as usize;
-    if missing <= older {
-        return missing;
-    }
-    older
-}
-
-// The receiver behind a packet that gives its text: the next number is expected, and none is kept.
-fn moved(receiver: Receiver, source: u32, sequence: u16) -> Receiver
-    ensures { receiver_of result ≡ moved_to (receiver_of receiver) source sequence }
-{
-    let expected = next(sequence);
-    Receiver {
-        t140: receiver.t140,
-        red: receiver.red,
-        has_source: true,
-        has_kept: false,
-        source,
-        expected,
-        kept: 0,
-    }
-}
-
-// A forward packet: its last `wanted` older blocks and its primary are given.
-fn follow(
-    receiver: Receiver,
-    bytes: &[u8],
-    packet: Packet,
-    loss: u16,
-    distance: i16,
-    wanted: usize,
-) -> Advanced
-    requires { (wanted ≤ packet.count) × (packet.count ≤ level) }
-    ensures { advanced result ≡ followed (receiver_of receiver) bytes.now packet loss distance wanted }
-{
-    let older = packet.count;
-    let first = older - wanted;
-    let from = blocks::start_of(bytes, packet, first);
-    let given = wanted + 1;
-    let receiver = moved(receiver, packet.source, packet.sequence);
-    Advanced {
-        receiver,
-        answer: Answer::Forward {
-            loss,
-            distance,
-            older,
-            given,
-            from,
-            to: packet.end,
-        },
-    }
-}
-
-// The same by its distance: the last min(d, r) older blocks, and marks for what it lacks.
-fn follow_at(receiver: Receiver, bytes: &[u8], packet: Packet, d: u16, distance: i16) -> Advanced
-    requires { packet.count ≤ level }
-    ensures { advanced result ≡ followed_at (receiver_of receiver) bytes.now packet d distance }
-{
-    let older = packet.count;
-    let loss = loss_of(d, older);
-    let wanted = wanted_of(d, older);
-    follow(receiver, bytes, packet, loss, distance, wanted)
-}
-
-fn is_kept(receiver: Receiver, sequence: u16) -> bool
-    ensures { result ≡ Course.is_kept (kept_by (receiver_of receiver)) sequence }
-{
-    if receiver.has_kept {
-        return sequence == receiver.kept;
-    }
-    false
-}
-
-// A packet too far from the expected number: a break where its number is the one kept, else a jump, which keeps the next.
-fn leap(receiver: Receiver, packet: Packet, distance: i16) -> Advanced
-    requires { packet.count ≤ level }
-    ensures { advanced result ≡ leapt (receiver_of receiver) packet distance }
-{
-    if is_kept(receiver, packet.sequence) {
-        let from = packet.first;
-        let older = packet.count;
-        let given = older + 1;
-        let to = packet.end;
-        let receiver = moved(receiver, packet.source, packet.sequence);
-        return Advanced {
-            receiver,
-            answer: Answer::Break {
-                older,
-                given,
-                from,
-                to,
-            },
-        };
-    }
-    let kept = next(packet.sequence);
-    Advanced {
-        receiver: Receiver {
-            t140: receiver.t140,
-            red: receiver.red,
-            has_source: receiver.has_source,
-            has_kept: true,
-            source: receiver.source,
-            expected: receiver.expected,
-            kept,
-        },
-        answer: Answer::Jump { distance },
-    }
-}
-
-// A packet behind the first.
-fn accept_later(receiver: Receiver, bytes: &[u8], packet: Packet) -> Advanced
-    requires { packet.count ≤ level }
-    ensures { advanced result ≡ later_accepted (receiver_of receiver) bytes.now packet (Course.distance packet.sequence receiver.expected) }
-{
-    let d = ahead(packet.sequence, receiver.expected);
-    let distance = signed(d);
-    if distance < 0 {
-        if distance < Receiver::FIRST_LATE {
-            return leap(receiver, packet, distance);
+impl Arrived<'_> {
+    // The receiver after a packet that gives its text: the next number is expected, and none is kept.
+    fn moved(self) -> Receiver
+        ensures { receiver_of result ≡ moved_to (receiver_of self.entry.receiver) self.entry.packet.source self.entry.packet.sequence }
+    {
+        Receiver {
+            has_source: true,
+            has_kept: false,
+            source: self.packet.source,
+            expected: next(self.packet.sequence),
+            kept: 0,
+            ..self.receiver
         }
-        return Advanced {
-            receiver,
-            answer: Answer::Late { distance },
-        };
     }
-    if Receiver::LAST_FORWARD < distance {
-        return leap(receiver, packet, distance);
-    }
-    follow_at(receiver, bytes, packet, d, distance)
-}
 
-// The first packet gives all its blocks.
-pub fn accept(receiver: Receiver, bytes: &[u8], packet: Packet) -> Advanced
-    requires { packet.count ≤ level }
-    ensures { advanced result ≡ accepted_step (receiver_of receiver) bytes.now packet }
-{
-    let has_source = receiver.has_source;
-    if has_source {
-        return accept_later(receiver, bytes, packet);
+    // A forward packet: its last `wanted` older blocks and its primary are given.
+    #[tactic(auto, using(packet_spec::proofs::Limits::level_most))]
+    fn follow(self, loss: u16, distance: i16, wanted: usize) -> Advanced<Receiver, Answer>
+        requires { wanted ≤ self.packet.count }
+        ensures { step_made result ≡ followed (receiver_of self.entry.receiver) self.entry.bytes.now self.entry.packet loss distance wanted }
+    {
+        let from = blocks::start_of(self.bytes, self.packet, self.packet.count - wanted);
+        Advanced {
+            receiver: self.moved(),
+            answer: Answer::Forward(Given {
+                loss,
+                distance,
+                older: self.packet.count,
+                given: wanted + 1,
+                from,
+                to: self.packet.end,
+            }),
+        }
     }
-    let older = packet.count;
-    follow(receiver, bytes, packet, 0, 0, older)
-}
 
-// A packet that goes by its distance alone, as a forward one does; the number kept stays.
-pub fn give(receiver: Receiver, bytes: &[u8], packet: Packet) -> Advanced
-    requires { packet.count ≤ level }
-    ensures { advanced result ≡ gave_step (receiver_of receiver) bytes.now packet }
-{
-    let sequence = packet.sequence;
-    let d = ahead(sequence, receiver.expected);
-    let distance = signed(d);
-    let followed = follow_at(receiver, bytes, packet, d, distance);
-    let moved = followed.receiver;
-    let answer = followed.answer;
-    Advanced {
-        receiver: Receiver {
-            t140: moved.t140,
-            red: moved.red,
-            has_source: moved.has_source,
-            has_kept: receiver.has_kept,
-            source: moved.source,
-            expected: moved.expected,
-            kept: receiver.kept,
-        },
-        answer,
+    // The same by its distance: the last min(d, r) older blocks, and marks for what it lacks.
+    fn follow_at(self) -> Advanced<Receiver, Answer>
+        ensures { step_made result ≡ later_by forward (receiver_of self.entry.receiver) self.entry.bytes.now self.entry.packet (Course.distance self.entry.packet.sequence self.entry.receiver.expected) }
+    {
+        let d = usize::from(self.receiver.ahead(self.packet.sequence));
+        // `as`: it is proved to fit, where TryFrom would bring an error that cannot come
+        let loss = d.saturating_sub(self.packet.count) as u16;
+        let wanted = d.min(self.packet.count);
+        self.follow(loss, self.receiver.distance(self.packet.sequence), wanted)
+    }
+
+    // A packet too far from the expected number: a break where its number is the one kept, else a jump, which keeps the next.
+    #[tactic(auto, using(packet_spec::proofs::Limits::level_most))]
+    fn leap(self, distance: i16) -> Advanced<Receiver, Answer>
+        ensures { step_made result ≡ leapt (receiver_of self.entry.receiver) self.entry.packet distance }
+    {
+        if self.receiver.has_kept && self.packet.sequence == self.receiver.kept {
+            Advanced {
+                receiver: self.moved(),
+                answer: Answer::Break(Given {
+                    loss: 0,
+                    distance: 0,
+                    older: self.packet.count,
+                    given: self.packet.count + 1,
+                    from: self.packet.first,
+                    to: self.packet.end,
+                }),
+            }
+        } else {
+            Advanced {
+                receiver: Receiver {
+                    has_kept: true,
+                    kept: next(self.packet.sequence),
+                    ..self.receiver
+                },
+                answer: Answer::Jump(distance),
+            }
+        }
+    }
+
+    // A packet after the first.
+    fn accept_later(self) -> Advanced<Receiver, Answer>
+        ensures { step_made result ≡ later_accepted (receiver_of self.entry.receiver) self.entry.bytes.now self.entry.packet (Course.distance self.entry.packet.sequence self.entry.receiver.expected) }
+    {
+        let distance = self.receiver.distance(self.packet.sequence);
+        if (0..=Receiver::LAST_FORWARD).contains(&distance) {
+            self.follow_at()
+        } else if (Receiver::FIRST_LATE..0).contains(&distance) {
+            Advanced {
+                receiver: self.receiver,
+                answer: Answer::Late(distance),
+            }
+        } else {
+            self.leap(distance)
+        }
+    }
+
+    // The first packet gives all its blocks.
+    pub fn accept(self) -> Advanced<Receiver, Answer>
+        ensures { step_made result ≡ accepted_step (receiver_of self.entry.receiver) self.entry.bytes.now self.entry.packet }
+    {
+        if self.receiver.has_source {
+            self.accept_later()
+        } else {
+            self.follow(0, 0, self.packet.count)
+        }
+    }
+
+    // A packet that goes by its distance alone, as a forward one does; the number kept stays.
+    pub fn give(self) -> Advanced<Receiver, Answer>
+        ensures { step_made result ≡ gave_step (receiver_of self.entry.receiver) self.entry.bytes.now self.entry.packet }
+    {
+        let Advanced { receiver, answer } = self.follow_at();
+        Advanced {
+            receiver: Receiver {
+                has_kept: self.receiver.has_kept,
+                kept: self.receiver.kept,
+                ..receiver
+            },
+            answer,
+        }
     }
 }

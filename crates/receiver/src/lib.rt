@@ -3,23 +3,25 @@
 
 mod accepting;
 
-ghost use Rattle.std.specs.Prelude.{◌≡◌, if◌then◌else◌};
+ghost use Rattle.std.specs.Prelude.{◌≡◌, ◌<◌, if◌then◌else◌, IfOk, IfErr, OnErr};
+ghost use Rattle.packet_spec.specs.Limits.{level};
 ghost use Rattle.packet_spec.specs.Header.{Any, Only};
 ghost use Rattle.packet.specs.Places.{expected_source};
 ghost use Rattle.receiver_spec.specs.Opening.{open_receiver};
-ghost use Rattle.receiver_spec.specs.State.{fresh_receiver};
 ghost use Rattle.receiver_spec.specs.Step.{step_of, text_given};
 ghost use Rattle.delivery.specs.Course.{distance};
 ghost use Rattle.receiver_spec.specs.Distance.{signed};
-ghost use Rattle.receiver.specs.View.{receiver_of, opening, step_answer, advanced, handed, handed_of};
+ghost use Rattle.receiver.specs.View.{receiver_of, opening, answered, step_answer, advanced, handed, handed_of};
 ghost use Rattle.receiver.specs.Internal.Read.{read_step, read_given};
 
-use packet::{Expected, Outcome, Packet, Refusal};
+use accepting::Arrived;
+use packet::{Packet, Refusal};
 
 // The payload types; the source, once the first packet was accepted; the sequence number that is expected next; the number
 // that a jump kept, 0 where none is.
-#[repr(C)]
-#[derive(Clone, Copy)]
+// The flags stay beside their values, in place of an Option: C lends any bytes beside a cleared flag, and a call of a receiver that
+// holds may leave them as they were (stewpigeon_holding_receiver_step, _wait).
+#[derive(Clone, Copy, Default)]
 pub struct Receiver {
     pub t140: u8,
     pub red: u8,
@@ -30,77 +32,48 @@ pub struct Receiver {
     pub kept: u16,
 }
 
+// What an accepted packet gives: so many marks, its signed distance, how many older blocks it has, how many of its last blocks
+// are given, the primary among them, and where these start and end in the packet.
 #[derive(Clone, Copy)]
-pub struct Opened {
-    pub outcome: Outcome,
-    pub receiver: Receiver,
+pub struct Given {
+    pub loss: u16,
+    pub distance: i16,
+    pub older: usize,
+    pub given: usize,
+    pub from: usize,
+    pub to: usize,
 }
 
-// What a step answers. A late packet and a jump give nothing. A forward packet and a break give their last `given` blocks,
-// the primary among them; these lie from `from` up to `to` in the packet, which has `older` older blocks. A break gives all
-// of them, and its loss and distance are 0.
+// What a step answers to an accepted packet. A late packet and a jump tell their distance, and give nothing. A break gives all
+// its blocks, and its loss and distance are 0.
 #[derive(Clone, Copy)]
 pub enum Answer {
-    Refused(Refusal),
-    Late {
-        distance: i16,
-    },
-    Jump {
-        distance: i16,
-    },
-    Break {
-        older: usize,
-        given: usize,
-        from: usize,
-        to: usize,
-    },
-    Forward {
-        loss: u16,
-        distance: i16,
-        older: usize,
-        given: usize,
-        from: usize,
-        to: usize,
-    },
+    Late(i16),
+    Jump(i16),
+    Break(Given),
+    Forward(Given),
 }
 
-// The receiver for the next packet, and the answer.
+// The receiver for the next call, and the answer; a receiver that holds has its own two types here.
 #[derive(Clone, Copy)]
-pub struct Advanced {
-    pub receiver: Receiver,
-    pub answer: Answer,
+pub struct Advanced<R, A> {
+    pub receiver: R,
+    pub answer: A,
 }
 
-// The same with the text: the part of the caller's packet that the answer gives.
+// The same with the text: the part of a caller's packet that the answer gives.
 #[derive(Clone, Copy)]
-pub struct Stepped<'a> {
-    pub receiver: Receiver,
-    pub answer: Answer,
+pub struct Stepped<'a, R, A> {
+    pub receiver: R,
+    pub answer: A,
     pub text: &'a [u8],
 }
 
-fn fresh(t140: u8, red: u8) -> Receiver
-    ensures { receiver_of result ≡ fresh_receiver t140 red }
-{
-    Receiver {
-        t140,
-        red,
-        has_source: false,
-        has_kept: false,
-        source: 0,
-        expected: 0,
-        kept: 0,
-    }
-}
-
 // The source that a packet must have: any, before the first accepted one.
-pub fn source_expected(known: bool, source: u32) -> Expected
+pub fn source_expected(known: bool, source: u32) -> Option<u32>
     ensures { expected_source result ≡ (if known then Only source else Any) }
 {
-    if known {
-        return Expected::Only(source);
-    }
-    Expected::Any
+    known.then_some(source)
 }
 
 impl Receiver {
@@ -109,125 +82,109 @@ impl Receiver {
 
     const LAST_FORWARD: i16 = 2998;
 
-    pub fn open(t140: u8, red: u8) -> Opened
+    pub fn open(t140: u8, red: u8) -> Result<Receiver, Refusal>
         ensures { opening result ≡ open_receiver t140 red }
     {
         if header::types_bad(t140, red) {
-            return Opened {
-                outcome: Outcome::Refused(Refusal::PayloadTypes),
-                receiver: fresh(0, 0),
-            };
+            return Err(Refusal::PayloadTypes);
         }
-        Opened {
-            outcome: Outcome::Accepted,
-            receiver: fresh(t140, red),
-        }
+        Ok(Receiver {
+            t140,
+            red,
+            ..Receiver::default()
+        })
     }
 
     // The step: the receiver for the next packet, the answer and the text.
-    pub fn step<'a>(self, packet: &'a [u8]) -> Stepped<'a>
-        ensures { handed result ≡ handed_of (receiver_of self) packet.now }
+    pub fn step<'a>(self, packet: &'a [u8]) -> Result<Stepped<'a, Receiver, Answer>, Refusal>
+        ensures { handed (receiver_of self) result ≡ handed_of (receiver_of self) packet.now }
     {
-        let advanced = self.advance(packet);
-        let answer = advanced.answer;
-        let given = text(packet, answer);
-        Stepped {
-            receiver: advanced.receiver,
+        let Advanced { receiver, answer } = self.advance(packet)?;
+        Ok(Stepped {
+            receiver,
             answer,
-            text: given,
-        }
+            text: text(packet, Ok(answer)),
+        })
     }
 
-    // The step on a receiver that is lent and changed in place.
-    pub fn step_in_place(&mut self, packet: &[u8]) -> Answer
-        ensures { (step_answer result ≡ (step_of (receiver_of self.old) packet.now).answer) × (receiver_of self.new ≡ (step_of (receiver_of self.old) packet.now).receiver) }
+    // The step on a receiver that is lent and changed in place; where it is refused, it stays as it was.
+    pub fn step_in_place(&mut self, packet: &[u8]) -> Result<Answer, Refusal>
+        ensures { (answered result ≡ (step_of (receiver_of self.old) packet.now).answer) × (receiver_of self.new ≡ (step_of (receiver_of self.old) packet.now).receiver) }
     {
-        let advanced = (*self).advance(packet);
+        let advanced = (*self).advance(packet)?;
         *self = advanced.receiver;
-        advanced.answer
+        Ok(advanced.answer)
     }
 
     // The step without its text.
-    pub fn advance(self, packet: &[u8]) -> Advanced
-        ensures { advanced result ≡ step_of (receiver_of self) packet.now }
+    pub fn advance(self, packet: &[u8]) -> Result<Advanced<Receiver, Answer>, Refusal>
+        ensures { advanced (receiver_of self) result ≡ step_of (receiver_of self) packet.now }
     {
         let expected = source_expected(self.has_source, self.source);
-        let reading = reader::read_from(expected, self.t140, self.red, packet);
-        let outcome = reading.outcome;
-        match outcome {
-            Outcome::Refused(refusal) => Advanced {
-                receiver: self,
-                answer: Answer::Refused(refusal),
-            },
-            Outcome::Accepted => {
-                let content = reading.packet;
-                accepting::accept(self, packet, content)
-            }
-        }
+        let read = reader::read_from(expected, self.t140, self.red, packet)?;
+        let arrived = Arrived {
+            receiver: self,
+            bytes: packet,
+            packet: read,
+        };
+        Ok(arrived.accept())
     }
 
     // The step of a packet that was read of these bytes before.
-    pub fn accept(self, bytes: &[u8], packet: Packet) -> Advanced
-        ensures { advanced result ≡ read_step (receiver_of self) bytes.now packet }
+    #[tactic(auto, unfolding(packet_spec::specs::Limits::level))]
+    pub fn accept(self, bytes: &[u8], packet: Packet) -> Result<Advanced<Receiver, Answer>, Refusal>
+        ensures { advanced (receiver_of self) result ≡ read_step (receiver_of self) bytes.now packet }
     {
-        if Packet::LEVEL < packet.count {
-            return Advanced {
-                receiver: self,
-                answer: Answer::Refused(Refusal::BlockCount),
-            };
-        }
-        accepting::accept(self, bytes, packet)
+        Ok(self.arrived(bytes, packet)?.accept())
     }
 
     // The same for one that goes by its distance alone, as a forward one does; the number kept stays.
-    pub fn give(self, bytes: &[u8], packet: Packet) -> Advanced
-        ensures { advanced result ≡ read_given (receiver_of self) bytes.now packet }
+    #[tactic(auto, unfolding(packet_spec::specs::Limits::level))]
+    pub fn give(self, bytes: &[u8], packet: Packet) -> Result<Advanced<Receiver, Answer>, Refusal>
+        ensures { advanced (receiver_of self) result ≡ read_given (receiver_of self) bytes.now packet }
+    {
+        Ok(self.arrived(bytes, packet)?.give())
+    }
+
+    // A packet that was read comes to the receiver.
+    #[tactic(auto, unfolding(packet_spec::specs::Limits::level))]
+    fn arrived(self, bytes: &[u8], packet: Packet) -> Result<Arrived<'_>, Refusal>
+        ensures ok { IfOk result (λ a. (a.receiver ≡ self) × (a.bytes.now ≡ bytes.now) × (a.packet ≡ packet)) }
+        ensures refused { OnErr result (level < packet.count) }
+        ensures which { IfErr result (λ e. e ≡ Refusal.BlockCount) }
     {
         if Packet::LEVEL < packet.count {
-            return Advanced {
-                receiver: self,
-                answer: Answer::Refused(Refusal::BlockCount),
-            };
+            return Err(Refusal::BlockCount);
         }
-        accepting::give(self, bytes, packet)
+        Ok(Arrived {
+            receiver: self,
+            bytes,
+            packet,
+        })
     }
 
     // How far ahead of the expected number a packet is, wrapped; and as a signed number.
     pub fn ahead(self, sequence: u16) -> u16
         ensures { result ≡ distance sequence self.expected }
     {
-        accepting::ahead(sequence, self.expected)
+        sequence.wrapping_sub(self.expected)
     }
 
     pub fn distance(self, sequence: u16) -> i16
         ensures { result ≡ signed (distance sequence self.expected) }
     {
-        let d = accepting::ahead(sequence, self.expected);
-        accepting::signed(d)
+        self.ahead(sequence).cast_signed()
     }
 }
 
 // The text that an answer hands out, of the packet that was answered.
-pub fn text(packet: &[u8], answer: Answer) -> &[u8]
-    ensures { result.now ≡ text_given packet.now (step_answer answer) }
+pub fn text(packet: &[u8], answer: Result<Answer, Refusal>) -> &[u8]
+    ensures { result.now ≡ text_given packet.now (answered answer) }
 {
     match answer {
-        Answer::Refused(_) => &packet[..0],
-        Answer::Late { distance: _ } => &packet[..0],
-        Answer::Jump { distance: _ } => &packet[..0],
-        Answer::Break {
-            older: _,
-            given: _,
-            from,
-            to,
-        } => packet::part(packet, from, to),
-        Answer::Forward {
-            loss: _,
-            distance: _,
-            older: _,
-            given: _,
-            from,
-            to,
-        } => packet::part(packet, from, to),
+        Ok(Answer::Break(given) | Answer::Forward(given)) => packet::part(
+            packet, given.from, given.to,
+        ),
+        Ok(Answer::Late(_) | Answer::Jump(_)) | Err(_) => &packet[..0],
     }
 }

@@ -1,11 +1,12 @@
 -- The turns of a reader, one after the other.
-use Prim.Native.Nat.{ℕ, ◌+◌, ◌-◌, ◌≤◌}
+use Prim.Native.Nat.{ℕ, ◌+◌, ◌-◌, ◌<◌, ◌≤◌}
 use mathlib.Core.Path.{◌≡◌, ◌∙◌, refl, ap, sym}
-use mathlib.Core.List.{List, [], ◌∷◌}
-use mathlib.Core.Bool.{Bool, true, false}
+use mathlib.Core.List.{List, [], ◌∷◌, ◌++◌}
+use mathlib.Core.Bool.{Bool, true, false, ◌&&◌}
 use native.Mathlib.Omega.{arith}
 use lib.ListN.{length, take, drop, drop_of_length-le, length-drop}
-use lib.Seq.{drop-drop, length-take-le}
+use lib.Seq.{drop-drop, length-take-le, take-take}
+use Rattle.std.proofs.lemmas.List.{take-append-le, drop-append-le, take-append-drop}
 use Rattle.journal_spec.specs.Contents.{longest_packet}
 use Rattle.base.specs.Arrays.{over}
 use Rattle.reading.specs.declared.Reader.{Reader}
@@ -13,9 +14,9 @@ use Rattle.parts.specs.Bytes.{Reading, read_to, unread, going}
 use Rattle.reading.specs.Reading.{reading_of, sound, reader_ready}
 use Rattle.records.specs.Internal.Reading.{ReadAll, RecordsRead}
 use Rattle.records.specs.Internal.Turns.{Went, Turned, lent_after}
-use borrow.Author.Tests.{leb-true}
+use borrow.Author.Tests.{leb-true, le-leb, lt-leb}
 use lib.Dec.{leb}
-use Rattle.base.proofs.Tests.{and_left, and_right}
+use Rattle.base.proofs.Tests.{and_left, and_right, and_false}
 use Rattle.reading.proofs.Sound.{fits}
 use Rattle.base.proofs.Slices.{mid_rest}
 use Rattle.records.proofs.LentBuffer.{lends_all}
@@ -101,3 +102,43 @@ module _ (r : Reader) (p s : List ℕ) (b : Bool) (e : b ≡ reader_ready r (len
 
   pub read_not : b ≡ false → RecordsRead r p s r p 0
   read_not h = rw (sym e ∙ h) (record { reader = refl; packet = refl; none = refl })
+
+-- all was read with the front of p, and the rest of p stays
+module _ (r : Reader) (p s : List ℕ) (long : longest_packet ≤ length p) (ok : sound r ≡ true) (front : List ℕ) (fe : front ≡ take longest_packet p)
+    (r' : Reader) (front' : List ℕ) (same : length front' ≡ longest_packet) (used : ℕ) (t : ReadAll r front s r' front' used) where
+  abbrev behind : List ℕ
+  behind = drop longest_packet p
+
+  abbrev told : Reader → List ℕ → Reading
+  told x l = record { opened = x.opened; part = x.part; size = x.size; pieces = l }
+
+  before : reading_of r front ≡ reading_of r p
+  before = ap (told r) (ap (take r.at) fe ∙ take-take r.at longest_packet p (fits r ok))
+
+  there : r'.at ≤ length front'
+  there = omega (arith, same, fits r' t.still)
+
+  after : reading_of r' (front' ++ behind) ≡ reading_of r' front'
+  after = ap (told r') (take-append-le r'.at front' behind there)
+
+  stays : drop r'.at (front' ++ behind) ≡ drop r'.at p
+  stays =
+      let l : length (take longest_packet p) ≡ longest_packet = length-take-le longest_packet p long in
+      drop-append-le r'.at front' behind there ∙ ap (λ (x : List ℕ). x ++ behind) (t.keeps ∙ ap (drop r'.at) fe)
+      ∙ sym (drop-append-le r'.at (take longest_packet p) behind (omega (arith, fits r' t.still))) ∙ ap (drop r'.at) (take-append-drop longest_packet p)
+
+  pub read_front : RecordsRead r p s r' (front' ++ behind) used
+  read_front = rw (le-leb longest_packet (length p) long, ok) (record {
+    still = t.still;
+    within = t.within;
+    reads = after ∙ t.reads ∙ ap (λ (x : Reading). read_to x s) before;
+    leaves = t.leaves ∙ ap (λ (x : Reading). unread x s) before;
+    keeps = stays;
+  })
+
+-- nothing is done where p is short, or r is not sound
+pub too_short : (r : Reader) (p s : List ℕ) → length p < longest_packet → RecordsRead r p s r p 0
+too_short r p s h = rw (lt-leb longest_packet (length p) h) (record { reader = refl; packet = refl; none = refl })
+
+pub not_sound : (r : Reader) (p s : List ℕ) → sound r ≡ false → RecordsRead r p s r p 0
+not_sound r p s h = read_not r p s false (sym (and_false (leb longest_packet (length p))) ∙ ap (λ (b : Bool). leb longest_packet (length p) && b) (sym h)) refl

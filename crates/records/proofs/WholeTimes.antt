@@ -1,7 +1,7 @@
 -- Whole times before a packet.
 use Prim.Native.Nat.{ℕ, ◌+◌, ◌-◌, ◌<◌, ◌≤◌}
 use mathlib.Core.Path.{◌≡◌, ◌∙◌, refl, ap, sym}
-use mathlib.Core.List.{List}
+use mathlib.Core.List.{List, [], ◌∷◌}
 use mathlib.Core.Bool.{true}
 use native.Mathlib.Omega.{arith}
 use borrow.Author.Tests.{le-ltb}
@@ -39,6 +39,34 @@ passes_more s n w l k = record {
     next r e h =
         let z : n + 0 ≡ n = omega arith in
         one_time r (drop n s) e h (omega (arith, length-drop n s)) (get_or-drop n s 0 0 ∙ ap (λ (j : ℕ). get_or s j 0) z ∙ k)
+
+-- what is left after the times so far begins with one more
+module _ (s rest : List ℕ) (w : Passes s (length s - length rest)) (re : rest ≡ drop (length s - length rest) s) (within : length rest ≤ length s)
+    (record' after : List ℕ) (fe : record' ≡ take 9 rest) (ae : after ≡ drop 9 rest) (long : length after + 9 ≡ length rest) (kind : get_or record' 0 0 ≡ 4) where
+  n : ℕ
+  n = length s - length rest
+
+  next_place : n + 9 ≡ length s - length after
+  unfolding n
+  next_place = omega arith
+
+  kind_there : get_or s n 0 ≡ 4
+  unfolding n
+  kind_there =
+      let z : n + 0 ≡ n = omega arith in
+      ap (λ (j : ℕ). get_or s j 0) (sym z) ∙ sym (get_or-drop n s 0 0) ∙ ap (λ (x : List ℕ). get_or x 0 0) (sym re) ∙ sym (first rest) ∙ ap (λ (x : List ℕ). get_or x 0 0) (sym fe) ∙ kind
+    where
+      first : (x : List ℕ) → get_or (take 9 x) 0 0 ≡ get_or x 0 0
+      first [] = refl
+      first (b ∷ x) = refl
+
+  pub one_passed : Passes s (length s - length after)
+  unfolding n
+  one_passed = rw next_place at (passes_more s n w (omega arith) kind_there)
+
+  pub left_after : after ≡ drop (length s - length after) s
+  unfolding n
+  left_after = ae ∙ ap (drop 9) re ∙ drop-drop 9 n s ∙ ap (λ (j : ℕ). drop j s) next_place
 
 pub past : (r : Reader) (p s : List ℕ) → r.part ≡ Kind → sound r ≡ true → longest_packet ≤ length p → r.size ≤ r.at → (n : ℕ) → Passes s n → Went r p s r p n
 past r p s e ok big outside n w =

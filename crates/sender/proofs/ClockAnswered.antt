@@ -7,8 +7,8 @@ use lib.Dec.{ltb, leb, eqb, T as Holds}
 use lib.ListN.{length}
 use borrow.Author.Tests.{eqb-true}
 use Rattle.sender.specs.declared.Sender.{Sender}
-use Rattle.writer.specs.declared.Answer.{Answer}
-use Rattle.writer.specs.declared.Answer.TheVariants.{Refused, Quiet, Sent}
+use Rattle.std.specs.Prelude.{Some, None, Ok, Err}
+use Rattle.packet.specs.declared.Refusal.{Refusal}
 use Rattle.text_spec.specs.Front.{front}
 use Rattle.base.specs.Arrays.{over}
 use Rattle.base.specs.Checks.{checked}
@@ -21,19 +21,18 @@ use Rattle.sender_spec.specs.Rate as Rate
 use Rattle.sender_spec.specs.Packets.{going, taken, carried, any_text, packet_bytes, after_packet}
 use Rattle.sender_spec.proofs.SettingsPass.{Passed, settings_good}
 use Rattle.sender_spec.specs.Calls.{clock_of, clock_sent, clock_quiet, sender_at, clock_refused, space_checks}
-use Rattle.settings.specs.declared.Judged.{Judged}
-use Rattle.settings.specs.declared.Judged.TheVariants as Judgements
+use Rattle.settings.specs.declared.Due.TheVariants.{Early}
 use Rattle.settings.specs.Judging as Judging
-use Rattle.settings.specs.Judging.{Judgement, refuses, ready, judged, is_early, is_first, is_later, judgement_of}
+use Rattle.settings.specs.Judging.{Judgement, refuses, ready, judged, judgement_of}
 use Rattle.slots.specs.Slots.{texts_size}
 use Rattle.writer.specs.Draft as Draft
 use Rattle.rate.specs.Circle.{slots_of, log_size}
 use Rattle.rate.proofs.Circle.{slots_limit}
 use Rattle.slots.proofs.Slots.{waiting_length}
 use Rattle.settings.specs.State.{settings_of}
-use Rattle.writer.specs.Draft.{draft_packet, clock_answer, is_sent, put_of}
+use Rattle.writer.specs.Draft.{Answered, draft_packet, clock_answer, put_of}
 use Rattle.sender.specs.State.{state_of}
-use Rattle.sender.specs.Clocking.{judgement_at, refused_by, marker_due, taken_bytes, draft_of, record_at, record_behind, pace_behind, texts_behind, log_behind, Clocks}
+use Rattle.sender.specs.Clocking.{judgement_at, marker_due, taken_bytes, draft_of, record_at, record_behind, pace_behind, texts_behind, log_behind, Clocks}
 use Rattle.sender.proofs.Taken.{taken_lies}
 use Rattle.sender.proofs.AfterClockCall.{after_is}
 use Rattle.sender.proofs.Drafted.{packet_is}
@@ -84,18 +83,11 @@ module _ (s : State.Sender) (t : ℕ) (p : List ℕ) where
   pub by_ready : ready (judgement_of s.settings s.clock s.progress t) ≡ true → clock_of s t p ≡ ready_result
   by_ready e = by_judgement ∙ ready_result_lem (judgement_of s.settings s.clock s.progress t) e
 
-module _ (s : Sender) (t : ℕ) where
-  pub first_is : (j : Judged) → Holds (is_first j) → judged j ≡ judgement_at s t → ready (judgement_at s t) ≡ true
-  first_is (Judgements.Refused r) h e = absurd h
-  first_is Judgements.Early h e = absurd h
-  first_is Judgements.First h e = ap ready (sym e)
-  first_is Judgements.Later h e = absurd h
-
-  pub later_is : (j : Judged) → Holds (is_later j) → judged j ≡ judgement_at s t → ready (judgement_at s t) ≡ true
-  later_is (Judgements.Refused r) h e = absurd h
-  later_is Judgements.Early h e = absurd h
-  later_is Judgements.First h e = absurd h
-  later_is Judgements.Later h e = ap ready (sym e)
+-- what is asked of an answer with a packet alone
+abbrev pub WhereSent : Answered → Type 0 → Type 0
+WhereSent (Err q) A = Unit {0}
+WhereSent (Ok None) A = Unit {0}
+WhereSent (Ok (Some l)) A = A
 
 abbrev sender_for : ClockAnswer → State.Sender → ℕ → State.Sender
 sender_for (refused n) s t = s
@@ -113,18 +105,12 @@ module _ (s : Sender) (texts log : List ℕ) (t : ℕ) (p : List ℕ) where
   k = going state t
 
   -- a call that comes too early for a packet
-  pub early_is : (j : Judged) → Holds (is_early j) → judged j ≡ judgement_at s t → Clocks s texts log t p Quiet (record_at s t) texts log p
-  early_is (Judgements.Refused r) h e = absurd h
-  early_is Judgements.Early h e = record { result = ap (result_by state t p) e ∙ sym (by_judgement state t p); fields = refl; bytes = refl; times = refl }
-  early_is Judgements.First h e = absurd h
-  early_is Judgements.Later h e = absurd h
+  pub early_is : judged (Ok Early) ≡ judgement_at s t → Clocks s texts log t p (Ok None) (record_at s t) texts log p
+  early_is e = record { result = ap (result_by state t p) e ∙ sym (by_judgement state t p); fields = refl; bytes = refl; times = refl }
 
-  -- one that is neither ready nor early
-  pub refused_is : (j : Judged) → Holds (not (is_first j)) → Holds (not (is_later j)) → Holds (not (is_early j)) → judged j ≡ judgement_at s t → Clocks s texts log t p (refused_by j) s texts log p
-  refused_is (Judgements.Refused r) h l k e = record { result = ap (result_by state t p) e ∙ sym (by_judgement state t p); fields = refl; bytes = refl; times = refl }
-  refused_is Judgements.Early h l k e = absurd k
-  refused_is Judgements.First h l k e = absurd h
-  refused_is Judgements.Later h l k e = absurd l
+  -- one that is refused
+  pub refused_is : (q : Refusal) → judged (Err q) ≡ judgement_at s t → Clocks s texts log t p (Err q) s texts log p
+  refused_is q e = record { result = ap (result_by state t p) e ∙ sym (by_judgement state t p); fields = refl; bytes = refl; times = refl }
 
   abbrev turned : Draft.Result → ClockResult
   turned r = record { answer = r.answer; sender = sender_for r.answer state t; lent = r.lent }
@@ -155,15 +141,15 @@ module _ (s : Sender) (texts log : List ℕ) (t : ℕ) (p : List ℕ) where
         go false c = refl
 
     -- what a draft of what 01 takes comes to; where it is sent, so many times are lent
-    answered_is : (r : Answer) (p' : List ℕ) → (Holds (is_sent r) → length log ≡ log_size) → record { answer = clock_answer r; lent = p' } ≡ put_of (draft_of s t (marker_due s n) n) texts p
+    answered_is : (r : Answered) (p' : List ℕ) → WhereSent r (length log ≡ log_size) → record { answer = clock_answer r; lent = p' } ≡ put_of (draft_of s t (marker_due s n) n) texts p
         → Clocks s texts log t p r (record_behind r s t n k (pace_behind s k)) (texts_behind r s texts n) (log_behind r s log t k) p'
     answered_is r p' long e = record { result = behind r long ∙ ap turned e ∙ turned_is; fields = refl; bytes = refl; times = refl }
       where
-        behind : (r : Answer) → (Holds (is_sent r) → length log ≡ log_size)
+        behind : (r : Answered) → WhereSent r (length log ≡ log_size)
             → record { answer = clock_answer r; sender = state_of (record_behind r s t n k (pace_behind s k)) (texts_behind r s texts n) (log_behind r s log t k); lent = p' } ≡ turned (record { answer = clock_answer r; lent = p' })
-        behind (Refused q) long = refl
-        behind Quiet long = refl
-        behind (Sent l) long = ap (λ (x : State.Sender). record { answer = sent l; sender = x; lent = p' }) (after_is s texts log t size (long tt) passed)
+        behind (Err q) long = refl
+        behind (Ok None) long = refl
+        behind (Ok (Some l)) long = ap (λ (x : State.Sender). record { answer = sent l; sender = x; lent = p' }) (after_is s texts log t size long passed)
 
     -- the same of a draft by what the code counts: c characters wait, of which g may go, in m bytes
     module _ (c g m : ℕ) (tagged : Bool) (counted : c ≡ min s.waiting.characters room_size) (allowed : g ≡ Rate.allowed (slots_of s.settings.rate) state.times t c) (taken : m ≡ taken_bytes texts s.waiting c g) (tags : tagged ≡ marker_due s m) where
@@ -179,7 +165,7 @@ module _ (s : Sender) (texts log : List ℕ) (t : ℕ) (p : List ℕ) where
           go true = sym (waiting_length texts size s.waiting.room s.waiting.len)
           go false = refl
 
-      pub put_is : (r : Answer) (texts' log' p' : List ℕ) → (Holds (is_sent r) → length log ≡ log_size) → record { answer = clock_answer r; lent = p' } ≡ put_of (draft_of s t tagged m) texts p
+      pub put_is : (r : Answered) (texts' log' p' : List ℕ) → WhereSent r (length log ≡ log_size) → record { answer = clock_answer r; lent = p' } ≡ put_of (draft_of s t tagged m) texts p
           → texts' ≡ texts_behind r s texts m → log' ≡ log_behind r s log t g → Clocks s texts log t p r (record_behind r s t m g (pace_behind s g)) texts' log' p'
       put_is r texts' log' p' long e same there =
           subst (λ (l : List ℕ). Clocks s texts log t p r (record_behind r s t m g (pace_behind s g)) texts' l p') (sym there)

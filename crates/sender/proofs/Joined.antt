@@ -4,11 +4,11 @@ use mathlib.Core.Path.{◌≡◌, ◌∙◌, refl, ap, sym}
 use mathlib.Core.List.{List, [], ◌∷◌}
 use mathlib.Core.Bool.{Bool, true, false, cond, not}
 use native.Mathlib.Omega.{arith}
-use lib.Dec.{eqb, T as Holds}
+use lib.Dec.{eqb}
 use lib.ListN.{length, take}
 use borrow.Author.Tests.{ltb-false, eqb-true, eqb-false, not-false}
 use Rattle.sender.specs.declared.Sender.{Sender}
-use Rattle.packet.specs.Refusal.{number, is_refused}
+use Rattle.packet.specs.Refusal.{number}
 use Rattle.packet.proofs.Names.{number_positive}
 use Rattle.base.specs.Checks.{Check, number_by}
 use Rattle.base.proofs.InOrder.{NoneApplies, number_first, refused_by_lem, none_applies}
@@ -25,9 +25,9 @@ use Rattle.slots.specs.Slots.{slots, texts_size, over_at}
 use Rattle.slots.proofs.Slots.{waiting_length, waiting_some}
 use Rattle.writer.specs.Draft.{blocks_from}
 use Rattle.settings.specs.State.{settings_of, progress_of}
-use Rattle.offer.specs.declared.Offered.{Offered}
-use Rattle.offer.specs.declared.Offered.TheVariants as Offerings
-use Rattle.offer.specs.Offer.{outcome_of, characters_of, sender_where, end_of, Judges}
+use Rattle.std.specs.Prelude.{Result, Ok, Err}
+use Rattle.packet.specs.declared.Refusal.{Refusal}
+use Rattle.offer.specs.Offer.{outcome_of, sender_where, end_of, Judges}
 use Rattle.offer.proofs.Joined.{waiting_joined, back_stays}
 use Rattle.sender.specs.State.{state_of}
 use Rattle.sender.specs.Offering.{record_with, record_in, Offers}
@@ -98,11 +98,11 @@ module _ (s : Sender) (texts : List ℕ) (t : ℕ) (x : List ℕ) (few : 1 + len
     unfolding offer_of
     refused_is n k e = refused_by_lem (offer_refused state) (offer_checks state t x) (record { number = 0; sender = sender_with state t x }) n k e
 
-  abbrev JudgesSo : Offered → List ℕ → Type 0
+  abbrev JudgesSo : Result ℕ Refusal → List ℕ → Type 0
   JudgesSo r texts' = Judges s.settings s.clock s.waiting.room s.waiting.len t x texts r texts'
 
-  pub offers_by : (r : Offered) (texts' : List ℕ) → JudgesSo r texts' → Offers s texts t x (outcome_of r) (record_in r s t (length x)) texts'
-  offers_by (Offerings.Joined k) texts' j =
+  pub offers_by : (r : Result ℕ Refusal) (texts' : List ℕ) → JudgesSo r texts' → Offers s texts t x (outcome_of r) (record_in r s t (length x)) texts'
+  offers_by (Ok k) texts' j =
       let waits : ℕ → Sender = record_with s t (length x) in
       record {
         result = λ log.
@@ -113,7 +113,7 @@ module _ (s : Sender) (texts : List ℕ) (t : ℕ) (x : List ℕ) (few : 1 + len
         fields = ap waits j.counted;
         bytes = j.bytes;
       }
-  offers_by (Offerings.Refused q) texts' j =
+  offers_by (Err q) texts' j =
       record {
         result = λ log.
             ap (λ (l : List ℕ). record { number = number q; sender = state_of s l log }) j.bytes
@@ -121,13 +121,3 @@ module _ (s : Sender) (texts : List ℕ) (t : ℕ) (x : List ℕ) (few : 1 + len
         fields = refl;
         bytes = j.bytes;
       }
-
--- the record that is left, by whether the offer is refused
-module _ (s : Sender) (t n : ℕ) where
-  pub in_refused : (r : Offered) → Holds (is_refused (outcome_of r)) → record_in r s t n ≡ s
-  in_refused (Offerings.Joined k) h = absurd h
-  in_refused (Offerings.Refused q) h = refl
-
-  pub in_joined : (r : Offered) → Holds (not (is_refused (outcome_of r))) → record_in r s t n ≡ record_with s t n (characters_of r)
-  in_joined (Offerings.Joined k) h = refl
-  in_joined (Offerings.Refused q) h = absurd h

@@ -1,7 +1,7 @@
+pub mod Fresh
 pub mod Ring
 pub mod Taken
 pub mod AfterClockCall
 pub mod Joined
 pub mod Drafted
 pub mod ClockAnswered
-pub mod RecordLeft

@@ -1,35 +1,24 @@
 -- What the clock call answers.
-use Rattle.std.specs.Prelude.{ℕ, ◌+◌, ◌%◌, min, ◌≡◌, List, Bool, true, cond, eqb, length}
+use Rattle.std.specs.Prelude.{ℕ, Some, None, Ok, Err, ◌+◌, ◌%◌, min, ◌≡◌, List, Bool, true, cond, eqb, length}
 use Rattle.sender.specs.declared.Sender.{Sender}
 use Rattle.text_spec.specs.Front.{front}
 use Rattle.sender_spec.specs.Limits.{room_size}
 use Rattle.sender_spec.specs.Packets.{going, taken}
 use Rattle.sender_spec.specs.Calls.{clock_of}
 use Rattle.writer.specs.declared.Draft.{Draft}
-use Rattle.writer.specs.declared.Answer.{Answer}
-use Rattle.writer.specs.declared.Answer.TheVariants.{Refused, Quiet, Sent}
-use Rattle.writer.specs.Draft.{clock_answer, answer_by}
+use Rattle.writer.specs.Draft.{Answered, clock_answer, answer_by}
 use Rattle.slots.specs.declared.Waiting.{Waiting}
 use Rattle.slots.specs.Slots.{waiting_in, rest_kept}
 use Rattle.slots.specs.Held.{left_of, kept_with}
 use Rattle.rate.specs.declared.Pace.{Pace}
 use Rattle.rate.specs.Circle.{slots_of, spent_in, pace_after}
 use Rattle.settings.specs.State.{settings_of, progress_of, marker_of, progress_behind}
-use Rattle.settings.specs.declared.Judged.{Judged}
-use Rattle.settings.specs.declared.Judged.TheVariants as Judgements
 use Rattle.settings.specs.Judging.{Judgement, ready, judgement_of}
 use Rattle.sender.specs.State.{state_of}
 
 -- what the call at clock t comes to, before the texts are looked at
 abbrev pub judgement_at : Sender → ℕ → Judgement
 judgement_at s t = judgement_of (settings_of s.settings) s.clock (progress_of s.progress) t
-
--- the answer where that is a refusal
-abbrev pub refused_by : Judged → Answer
-refused_by (Judgements.Refused r) = Refused r
-refused_by Judgements.Early = Quiet
-refused_by Judgements.First = Quiet
-refused_by Judgements.Later = Quiet
 
 -- M of a packet that takes so many bytes of what waits
 abbrev pub marker_due : Sender → ℕ → Bool
@@ -42,17 +31,17 @@ taken_bytes texts w c k = cond (eqb k c) (min w.len room_size) (length (front k 
 -- what the packet at clock t is written from, with this M and so many bytes of what waits
 abbrev pub draft_of : Sender → ℕ → Bool → ℕ → Draft
 draft_of s t m n = record {
-  level = s.settings.level;
-  t140 = s.settings.t140;
-  red = s.settings.red;
-  marker = m;
-  sequence = s.progress.next;
-  timestamp = (s.settings.timestamp + t) % 4294967296;
-  source = s.settings.source;
+  heading = record {
+    level = s.settings.level;
+    t140 = s.settings.t140;
+    red = s.settings.red;
+    marker = m;
+    sequence = s.progress.next;
+    timestamp = (s.settings.timestamp + t) % 4294967296;
+    source = s.settings.source;
+  };
   clock = t;
-  lens = s.kept.lens;
-  ats = s.kept.ats;
-  count = s.kept.count;
+  kept = s.kept;
   room = s.waiting.room;
   len = n;
 }
@@ -79,29 +68,29 @@ record_after s t n k p = record {
   progress = progress_behind s.progress n t;
 }
 
-abbrev pub record_behind : Answer → Sender → ℕ → ℕ → ℕ → Pace → Sender
-record_behind (Refused r) s t n k p = s
-record_behind Quiet s t n k p = record_at s t
-record_behind (Sent l) s t n k p = record_after s t n k p
+abbrev pub record_behind : Answered → Sender → ℕ → ℕ → ℕ → Pace → Sender
+record_behind (Err r) s t n k p = s
+record_behind (Ok None) s t n k p = record_at s t
+record_behind (Ok (Some l)) s t n k p = record_after s t n k p
 
 abbrev pub pace_behind : Sender → ℕ → Pace
 pace_behind s k = pace_after s.pace s.settings.rate k
 
 -- what is left of what waits begins the next slot
-abbrev pub texts_behind : Answer → Sender → List ℕ → ℕ → List ℕ
-texts_behind (Refused r) s texts n = texts
-texts_behind Quiet s texts n = texts
-texts_behind (Sent l) s texts n = rest_kept s.waiting.room s.waiting.len n texts
+abbrev pub texts_behind : Answered → Sender → List ℕ → ℕ → List ℕ
+texts_behind (Err r) s texts n = texts
+texts_behind (Ok None) s texts n = texts
+texts_behind (Ok (Some l)) s texts n = rest_kept s.waiting.room s.waiting.len n texts
 
 -- the clock stands in the next k slots
-abbrev pub log_behind : Answer → Sender → List ℕ → ℕ → ℕ → List ℕ
-log_behind (Refused r) s log t k = log
-log_behind Quiet s log t k = log
-log_behind (Sent l) s log t k = spent_in (slots_of s.settings.rate) log s.pace.next t k
+abbrev pub log_behind : Answered → Sender → List ℕ → ℕ → ℕ → List ℕ
+log_behind (Err r) s log t k = log
+log_behind (Ok None) s log t k = log
+log_behind (Ok (Some l)) s log t k = spent_in (slots_of s.settings.rate) log s.pace.next t k
 
 -- the sender that came and the one that is left are those of 01; and the fields, each byte of the texts and each time of the log are
 -- told besides
-pub record Clocks (s : Sender) (texts log : List ℕ) (t : ℕ) (p : List ℕ) (r : Answer) (s' : Sender) (texts' log' p' : List ℕ) : Type 0 where
+pub record Clocks (s : Sender) (texts log : List ℕ) (t : ℕ) (p : List ℕ) (r : Answered) (s' : Sender) (texts' log' p' : List ℕ) : Type 0 where
   pub result : record { answer = clock_answer r; sender = state_of s' texts' log'; lent = p' } ≡ clock_of (state_of s texts log) t p
   pub fields : s' ≡ record_behind r s t (length (taken (state_of s texts log) t)) (going (state_of s texts log) t) (pace_behind s (going (state_of s texts log) t))
   pub bytes : texts' ≡ texts_behind r s texts (length (taken (state_of s texts log) t))

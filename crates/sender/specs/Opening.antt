@@ -1,10 +1,8 @@
 -- What opening a sender answers.
-use Rattle.std.specs.Prelude.{ℕ, ◌≡◌, List, replicate}
+use Rattle.std.specs.Prelude.{ℕ, Result, Ok, Err, ◌≡◌, List, replicate}
 use Rattle.settings.specs.declared.Settings.{Settings}
 use Rattle.sender.specs.declared.Sender.{Sender}
-use Rattle.sender.specs.declared.Opened.{Opened}
-use Rattle.packet.specs.declared.Outcome.{Outcome}
-use Rattle.packet.specs.declared.Outcome.TheVariants.{Accepted, Refused}
+use Rattle.packet.specs.declared.Refusal.{Refusal}
 use Rattle.packet.specs.Refusal.{outcome_number}
 use Rattle.packet_spec.specs.Limits.{level}
 use Rattle.sender_spec.specs.Calls.{open_sender}
@@ -25,11 +23,20 @@ fresh_of s = record {
 abbrev pub zero_record : Sender
 zero_record = fresh_of (record { level = 0; buffering = 0; rate = 0; t140 = 0; red = 0; sequence = 0; timestamp = 0; source = 0 })
 
-abbrev pub opened_by : Outcome → Settings → Sender
-opened_by Accepted s = fresh_of s
-opened_by (Refused r) s = zero_record
+-- the outcome of an opening, and the record that is left to its caller: all zeros where it is refused
+abbrev pub opened_outcome : Result Sender Refusal → Result Unit Refusal
+opened_outcome (Ok s) = Ok tt
+opened_outcome (Err r) = Err r
+
+abbrev pub opened_record : Result Sender Refusal → Sender
+opened_record (Ok s) = s
+opened_record (Err r) = zero_record
+
+abbrev pub opened_by : Result Unit Refusal → Settings → Sender
+opened_by (Ok _) s = fresh_of s
+opened_by (Err r) s = zero_record
 
 -- whatever texts and times are lent, the sender is that of 01; and the fields are told besides
-pub record Opens (s : Settings) (r : Opened) : Type 0 where
-  pub result : (texts log : List ℕ) → record { number = outcome_number r.outcome; sender = state_of r.sender texts log } ≡ open_sender (settings_of s)
-  pub fields : r.sender ≡ opened_by r.outcome s
+pub record Opens (s : Settings) (r : Result Sender Refusal) : Type 0 where
+  pub result : (texts log : List ℕ) → record { number = outcome_number (opened_outcome r); sender = state_of (opened_record r) texts log } ≡ open_sender (settings_of s)
+  pub fields : opened_record r ≡ opened_by (opened_outcome r) s

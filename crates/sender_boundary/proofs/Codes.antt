@@ -16,9 +16,8 @@ use Rattle.sender_spec.specs.Calls.{clock_of}
 use Rattle.sender_spec.proofs.Shapes as Shapes
 use Rattle.sender_spec.proofs.Shapes.{Clock, clock_shape}
 use Rattle.sender.specs.declared.Sender.{Sender}
-use Rattle.writer.specs.declared.Answer.{Answer}
 use Rattle.sender.specs.State.{state_of}
-use Rattle.writer.specs.Draft.{clock_answer}
+use Rattle.writer.specs.Draft.{Answered, clock_answer}
 use Rattle.sender.specs.Clocking.{Clocks}
 use Rattle.sender_boundary.specs.Calls.{clock_code, signed_code, code_of}
 
@@ -45,7 +44,7 @@ sent_fits s t p h = go (clock_of s t p) (clock_shape s t p)
     go r (Shapes.quiet k e) = refl
     go r (Shapes.sent k l e m) = signed_small _ (omega arith)
 
-pub code_exact : (s : Sender) (texts log : List ℕ) (t : ℕ) (p : List ℕ) (r : Answer) (s' : Sender) (texts' log' p' : List ℕ) → Clocks s texts log t p r s' texts' log' p' → length p * 1 < 2 ^ 63
+pub code_exact : (s : Sender) (texts log : List ℕ) (t : ℕ) (p : List ℕ) (r : Answered) (s' : Sender) (texts' log' p' : List ℕ) → Clocks s texts log t p r s' texts' log' p' → length p * 1 < 2 ^ 63
     → code_of (clock_answer r) ≡ clock_code (clock_answer r)
 code_exact s texts log t p r s' texts' log' p' c h =
     subst (λ (x : ClockAnswer). code_of x ≡ clock_code x) (sym (ap (λ (x : ClockResult). x.answer) c.result)) (sent_fits (state_of s texts log) t p h)

@@ -1,15 +1,14 @@
 -- What the exported calls of the sender say.
-use Rattle.std.specs.Prelude.{ℕ, ◌^◌, ◌≡◌, List, cond, ltb, ℤ, pos, neg_ℤ, replicate}
-use Rattle.packet.specs.declared.Outcome.{Outcome}
+use Rattle.std.specs.Prelude.{ℕ, Result, ◌^◌, ◌≡◌, List, cond, ltb, ℤ, pos, neg_ℤ, replicate}
+use Rattle.packet.specs.declared.Refusal.{Refusal}
 use Rattle.packet.specs.Refusal.{outcome_number}
 use Rattle.sender_spec.specs.Answers.{ClockAnswer, refused, quiet, sent}
 use Rattle.slots.specs.Slots.{texts_size}
 use Rattle.settings.specs.declared.Settings.{Settings}
 use Rattle.sender.specs.declared.Sender.{Sender}
-use Rattle.writer.specs.declared.Answer.{Answer}
-use Rattle.sender.specs.Opening.{Opens}
+use Rattle.sender.specs.Opening.{opened_outcome, opened_record, Opens}
 use Rattle.sender.specs.Offering.{Offers}
-use Rattle.writer.specs.Draft.{clock_answer}
+use Rattle.writer.specs.Draft.{Answered, clock_answer}
 use Rattle.sender.specs.Clocking.{Clocks}
 
 abbrev pub settings_from : ℕ → ℕ → ℕ → ℕ → ℕ → ℕ → ℕ → ℕ → Settings
@@ -42,19 +41,20 @@ code_of (sent n) = signed_code n
 
 -- the number r, the sender and the texts that an opening leaves
 pub record OpensIn (x : Settings) (r : ℕ) (s' : Sender) (texts' : List ℕ) : Type 0 where
-  pub outcome : Outcome
-  pub number : r ≡ outcome_number outcome
-  pub opens : Opens x (record { outcome = outcome; sender = s' })
+  pub opened : Result Sender Refusal
+  pub number : r ≡ outcome_number (opened_outcome opened)
+  pub sender : s' ≡ opened_record opened
+  pub opens : Opens x opened
   pub cleared : texts' ≡ replicate texts_size 0
 
 -- the number r of an offer; the number names the refusal
 pub record OffersIn (s : Sender) (texts : List ℕ) (t : ℕ) (x : List ℕ) (r : ℕ) (s' : Sender) (texts' : List ℕ) : Type 0 where
-  pub outcome : Outcome
+  pub outcome : Result Unit Refusal
   pub number : r ≡ outcome_number outcome
   pub offers : Offers s texts t x outcome s' texts'
 
 -- the code r of a clock call
 pub record ClocksIn (s : Sender) (texts log : List ℕ) (t : ℕ) (p : List ℕ) (r : ℤ) (s' : Sender) (texts' log' p' : List ℕ) : Type 0 where
-  pub answer : Answer
+  pub answer : Answered
   pub code : r ≡ clock_code (clock_answer answer)
   pub clocks : Clocks s texts log t p answer s' texts' log' p'

@@ -1,18 +1,16 @@
 // What the exported calls of the sender answer, in the numbers and records of their callers.
-#![tactic(auto)]
+#![tactic(auto, unfolding(packet_spec::specs::Limits::level))]
 
-ghost use Rattle.std.specs.Prelude.{◌≡◌, pos, neg_ℤ, replicate};
+ghost use Rattle.std.specs.Prelude.{◌≡◌, replicate};
 ghost use Rattle.slots.specs.Slots.{texts_size};
 ghost use Rattle.sender.specs.Opening.{Opens};
 ghost use Rattle.writer.specs.Draft.{clock_answer};
-ghost use Rattle.sender_boundary.specs.Calls.{settings_from, signed_code, code_of};
+ghost use Rattle.sender_boundary.specs.Calls.{settings_from, code_of};
 
-use sender::{Opened, Sender};
+use packet::Refusal;
+use sender::Sender;
 use settings::Settings;
 use writer::Answer;
-
-// The lengths below are those that a signed number counts.
-const SIGNED: usize = 9223372036854775808;
 
 // Opens a sender, and makes the texts all zeros.
 pub fn open(
@@ -25,7 +23,7 @@ pub fn open(
     sequence: u16,
     timestamp: u32,
     source: u32,
-) -> Opened
+) -> Result<Sender, Refusal>
     ensures { Opens (settings_from level buffering rate t140 red sequence timestamp source) result × (texts.new ≡ replicate texts_size 0) }
 {
     *texts = [0u8; Sender::TEXTS];
@@ -42,31 +40,13 @@ pub fn open(
     Sender::open(settings)
 }
 
-fn minus(number: u8) -> i64
-    ensures { result ≡ neg_ℤ (pos number) }
-{
-    -(number as i64)
-}
-
-fn signed_of(len: usize) -> i64
-    ensures { result ≡ signed_code len }
-{
-    if len < SIGNED {
-        return len as i64;
-    }
-    0
-}
-
-// The clock call's answer as one number.
+// The clock call's answer as one number; 0 for a length that a signed number does not count, which no packet has.
 pub fn code_of(answer: Answer) -> i64
     ensures { result ≡ code_of (clock_answer answer) }
 {
     match answer {
-        Answer::Refused(refusal) => {
-            let number = refusal.number();
-            minus(number)
-        }
-        Answer::Quiet => 0,
-        Answer::Sent(len) => signed_of(len),
+        Err(refusal) => -i64::from(u8::from(refusal)),
+        Ok(None) => 0,
+        Ok(Some(len)) => i64::try_from(len).unwrap_or(0),
     }
 }

@@ -4,13 +4,19 @@ use mathlib.Core.Path.{◌≡◌, ◌∙◌, ap, sym}
 use mathlib.Core.List.{List, [], ◌++◌, append_assoc}
 use native.Mathlib.Omega.{arith}
 use lib.ListN.{length, take, drop, take-append-drop, length-append, length-drop}
-use lib.Seq.{take-append-le, take_at, drop_at, drop-drop, take-take, take-add, length-take-le}
+use lib.Seq.{take-append-le, take_at, drop_at, drop-drop, take-take, take-add, length-take-le, paste}
 use Rattle.base.specs.Arrays.{over}
 use Rattle.slots.specs.Slots.{over_at}
 
 -- no bytes
 pub over_at_none : (at : ℕ) (l : List ℕ) → over_at at [] l ≡ l
 over_at_none at l = take-append-drop at l
+
+-- the front of a list pasted there
+pub pasted : (at n : ℕ) (l s : List ℕ) → n ≤ length s → paste l at s n ≡ over_at at (take n s) l
+pasted at n l s h =
+    let e : at + n ≡ at + length (take n s) = omega (arith, length-take-le n s h) in
+    append_assoc (take at l) (take n s) (drop (at + n) l) ∙ ap (λ (r : List ℕ). take at l ++ (take n s ++ r)) (ap (λ (k : ℕ). drop k l) e ∙ sym (drop-drop (length (take n s)) at l))
 
 module _ (at : ℕ) (x l : List ℕ) (fits : at + length x ≤ length l) where
   over_at_cut : over_at at x l ≡ (take at l ++ x) ++ drop (at + length x) l

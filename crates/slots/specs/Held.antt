@@ -3,7 +3,7 @@ use Rattle.std.specs.Prelude.{ℕ, ◌+◌, ◌-◌, min, ◌∷◌, cond, ltb, 
 use Rattle.packet_spec.specs.Limits.{level}
 use Rattle.sender_spec.specs.Limits.{room_size}
 use Rattle.slots.specs.declared.Waiting.{Waiting}
-use Rattle.slots.specs.declared.Kept.{Kept}
+use Rattle.carrying.specs.declared.Kept.{Kept}
 use Rattle.slots.specs.Slots.{onward}
 
 -- so many bytes and characters more wait

@@ -5,8 +5,9 @@ mod holding_calls;
 mod receiving;
 mod sending;
 
-ghost use Rattle.std.specs.Prelude.{◌≡◌};
+ghost use Rattle.std.specs.Prelude.{◌≡◌, MatchResult};
 ghost use Rattle.text_spec.specs.Utf8.{text_of};
+ghost use Rattle.packet.specs.Refusal.{number};
 ghost use Rattle.packet_spec.specs.Limits.{level};
 ghost use Rattle.packet_spec.specs.Reading.{reading};
 ghost use Rattle.boundary.specs.Answers.{expected_of, text_answer};
@@ -14,6 +15,23 @@ ghost use Rattle.boundary.specs.Packets.{read_number, packet_behind};
 
 use boundary::packets::PacketRecord;
 use boundary::{TextAnswer, packets};
+use packet::Refusal;
+
+// Stores in a record lent what an opening gives, zeros where it is refused. The call's number.
+fn store_opened<R: Copy>(opened: Result<R, Refusal>, zeros: R, lent: &mut R) -> u8
+    ensures { MatchResult opened (λ r. (result ≡ 0) × (lent.new ≡ r)) (λ e. (result ≡ number e) × (lent.new ≡ zeros)) }
+{
+    match opened {
+        Ok(opened) => {
+            *lent = opened;
+            0
+        }
+        Err(refusal) => {
+            *lent = zeros;
+            u8::from(refusal)
+        }
+    }
+}
 
 // Reads a packet: 0, and what it holds is stored in `answer`; or the refusal's number. With `expects` 0 any source is
 // accepted, else only `source`.
@@ -29,14 +47,13 @@ pub extern "C" fn stewpigeon_read(
     ensures { (result ≡ read_number (reading level (expected_of expects source) t140 red packet.now)) × (answer.new ≡ packet_behind packet.now (reading level (expected_of expects source) t140 red packet.now) answer.old) }
 {
     let expected = boundary::expected_of(expects, source);
-    let reading = reader::read_from(expected, t140, red, packet);
-    let outcome = reading.outcome;
-    let number = boundary::number_of(outcome);
-    if outcome.is_refused() {
-        return number;
+    match reader::read_from(expected, t140, red, packet) {
+        Ok(read) => {
+            *answer = packets::record_of(packet, read);
+            0
+        }
+        Err(refusal) => u8::from(refusal),
     }
-    *answer = packets::record_of(packet, reading.packet);
-    number
 }
 
 // Tells in `answer` what the bytes are as UTF-8.

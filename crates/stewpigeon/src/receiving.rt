@@ -14,9 +14,8 @@ use receiver::Receiver;
 pub extern "C" fn stewpigeon_receiver_open(receiver: &mut ReceiverRecord, t140: u8, red: u8) -> u8
     ensures { (result ≡ (open_receiver t140 red).number) × (receiver.new ≡ lent_record (open_receiver t140 red).receiver) }
 {
-    let opened = Receiver::open(t140, red);
-    *receiver = boundary::record_of(opened.receiver);
-    boundary::number_of(opened.outcome)
+    let opened = Receiver::open(t140, red).map(ReceiverRecord::from);
+    crate::store_opened(opened, ReceiverRecord::default(), receiver)
 }
 
 // The receiver's step: 0 where the packet is accepted, whatever its course, else the refusal's number. A refused packet leaves
@@ -29,19 +28,16 @@ pub extern "C" fn stewpigeon_receiver_step(
 ) -> u8
     ensures { (result ≡ step_number (step_of (held_in receiver.old) packet.now).answer) × (receiver.new ≡ receiver_behind (step_of (held_in receiver.old) packet.now) receiver.old) × (step.new ≡ step_behind (step_of (held_in receiver.old) packet.now).answer step.old) }
 {
-    let lent = *receiver;
-    let advanced = boundary::advance(lent, packet);
-    let answer = advanced.answer;
-    let number = boundary::number_of_step(answer);
-    if boundary::is_refused(answer) {
-        return number;
+    match boundary::advance(*receiver, packet) {
+        Ok(advanced) => {
+            *step = Step::from(Ok(advanced.answer));
+            if !boundary::is_late(Ok(advanced.answer)) {
+                *receiver = ReceiverRecord::from(advanced.receiver);
+            }
+            0
+        }
+        Err(refusal) => u8::from(refusal),
     }
-    *step = boundary::step_of(answer);
-    if boundary::is_late(answer) {
-        return number;
-    }
-    *receiver = boundary::record_of(advanced.receiver);
-    number
 }
 
 // Fills the space from its start with whole loss marks, as many as fit and at most `count`, and answers how many.

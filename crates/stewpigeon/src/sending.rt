@@ -1,8 +1,18 @@
 // The sender for C and Rust callers, who lend its record, its texts and its log by pointers. All zeros are a sender too: it refuses
 // every call.
+ghost use Rattle.std.specs.Prelude.{◌≡◌};
+ghost use Rattle.sender.specs.Opening.{zero_record};
 ghost use Rattle.sender_boundary.specs.Calls.{settings_from, OpensIn, OffersIn, ClocksIn};
 
 use sender::Sender;
+
+// What the record holds where the opening is refused.
+#[tactic(auto, unfolding(packet_spec::specs::Limits::level))]
+fn zeros() -> Sender
+    ensures { result ≡ zero_record }
+{
+    Sender::default()
+}
 
 // Opens a sender in the record lent, and makes the texts all zeros: 0, or the refusal's number and a record of all zeros.
 #[unsafe(no_mangle)]
@@ -23,8 +33,7 @@ pub extern "C" fn stewpigeon_sender_open_in(
     let opened = sender_boundary::open(
         texts, level, buffering, rate, t140, red, sequence, timestamp, source,
     );
-    *sender = opened.sender;
-    boundary::number_of(opened.outcome)
+    crate::store_opened(opened, zeros(), sender)
 }
 
 // Offers text: 0, or the refusal's number.
@@ -37,8 +46,7 @@ pub extern "C" fn stewpigeon_sender_offer_in(
 ) -> u8
     ensures { OffersIn sender.old texts.old clock text.now result sender.new texts.new }
 {
-    let outcome = sender.offer(clock, text, texts);
-    boundary::number_of(outcome)
+    packet::number_of(sender.offer(clock, text, texts))
 }
 
 // Gives the clock: the length of the packet, which is written to the front of `packet`, or 0 where none is due, or minus

@@ -1,1 +1,4 @@
 pub mod Owes
+pub mod Chunks
+pub mod FrontStep
+pub mod Joined

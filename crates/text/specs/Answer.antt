@@ -1,8 +1,8 @@
 -- The answer about a text, in the terms of the definition.
-use Rattle.text_spec.specs.Utf8 as Utf8
-use Rattle.text.specs.declared.Text.{Text}
-use Rattle.text.specs.declared.Text.TheVariants.{Characters, Stops}
+use Rattle.std.specs.Prelude.{ℕ, Result, Ok, Err}
+use Rattle.text_spec.specs.Utf8.{Text, Characters, Stops}
+use Rattle.text.specs.declared.NotText.{NotText}
 
-abbrev pub text_answered : Text → Utf8.Text
-text_answered (Characters n) = Utf8.Characters n
-text_answered (Stops at) = Utf8.Stops at
+abbrev pub text_answered : Result ℕ NotText → Text
+text_answered (Ok n) = Characters n
+text_answered (Err e) = Stops e.place

@@ -10,7 +10,8 @@ ghost use Rattle.text_spec.specs.Front.{front};
 ghost use Rattle.text.specs.Owed.{owes, walked};
 ghost use Rattle.text.specs.Answer.{text_answered};
 
-// What a letter that has begun still owes: so many tails, and the range of the next one.
+// What a letter that has begun still owes: so many tails, and the range of the next one. With no tails none has begun: an
+// `Option` for that would make of what a byte leads to an `Option` of an `Option`.
 #[derive(Clone, Copy)]
 pub struct Owed {
     pub tails: u8,
@@ -18,101 +19,80 @@ pub struct Owed {
     pub high: u8,
 }
 
-// What a byte leads to.
-#[derive(Clone, Copy)]
-pub enum Walked {
-    Next(Owed),
-    Bad,
-}
+impl Owed {
+    fn new(tails: u8, low: u8, high: u8) -> Owed
+        ensures { result ≡ record { tails = tails; low = low; high = high } }
+    {
+        Owed { tails, low, high }
+    }
 
-// No letter begun.
-pub fn fresh() -> Owed
-    ensures { owes result ≡ [] }
-{
-    Owed {
-        tails: 0,
-        low: 0x80,
-        high: 0xBF,
+    // No letter begun.
+    pub fn fresh() -> Owed
+        ensures { owes result ≡ [] }
+    {
+        Owed::new(0, 0x80, 0xBF)
     }
-}
 
-// 1 where the next byte begins a letter.
-pub fn begins(owed: Owed) -> usize
-    ensures { (result ≡ begins (owes owed)) × (result ≤ 1) }
-{
-    let tails = owed.tails;
-    if tails == 0 {
-        return 1;
+    // 1 where the next byte begins a letter.
+    pub fn begins(self) -> usize
+        ensures { (result ≡ begins (owes self)) × (result ≤ 1) }
+    {
+        usize::from(self.tails == 0)
     }
-    0
-}
 
-pub fn step(owed: Owed, byte: u8) -> Walked
-    ensures { walked result ≡ owed_after (owes owed) byte }
-{
-    let tails = owed.tails;
-    if tails == 0 {
-        return lead(byte);
+    // What a byte leads to; none where it may not come next.
+    pub fn step(self, byte: u8) -> Option<Owed>
+        ensures { walked result ≡ owed_after (owes self) byte }
+    {
+        if self.tails == 0 {
+            return lead(byte);
+        }
+        if !(self.low..=self.high).contains(&byte) {
+            return None;
+        }
+        Some(Owed::new(self.tails - 1, 0x80, 0xBF))
     }
-    if byte < owed.low {
-        return Walked::Bad;
-    }
-    if owed.high < byte {
-        return Walked::Bad;
-    }
-    Walked::Next(Owed {
-        tails: tails - 1,
-        low: 0x80,
-        high: 0xBF,
-    })
 }
 
 // What a letter's first byte leads to.
-pub fn lead(byte: u8) -> Walked
+pub fn lead(byte: u8) -> Option<Owed>
     ensures { walked result ≡ owed_after [] byte }
 {
-    match byte {
-        0..=0x7F => begun(0, 0x80, 0xBF),
-        0x80..=0xC1 => Walked::Bad,
-        0xC2..=0xDF => begun(1, 0x80, 0xBF),
-        0xE0 => begun(2, 0xA0, 0xBF),
-        0xED => begun(2, 0x80, 0x9F),
-        0xE1..=0xEF => begun(2, 0x80, 0xBF),
-        0xF0 => begun(3, 0x90, 0xBF),
-        0xF4 => begun(3, 0x80, 0x8F),
-        0xF1..=0xF3 => begun(3, 0x80, 0xBF),
-        _ => Walked::Bad,
-    }
+    Some(match byte {
+        0..=0x7F => Owed::new(0, 0x80, 0xBF),
+        0xC2..=0xDF => Owed::new(1, 0x80, 0xBF),
+        0xE0 => Owed::new(2, 0xA0, 0xBF),
+        0xED => Owed::new(2, 0x80, 0x9F),
+        0xE1..=0xEF => Owed::new(2, 0x80, 0xBF),
+        0xF0 => Owed::new(3, 0x90, 0xBF),
+        0xF4 => Owed::new(3, 0x80, 0x8F),
+        0xF1..=0xF3 => Owed::new(3, 0x80, 0xBF),
+        _ => return None,
+    })
 }
 
-fn begun(tails: u8, low: u8, high: u8) -> Walked
-    ensures { result ≡ Walked.Next (record { tails = tails; low = low; high = high }) }
-{
-    Walked::Next(Owed { tails, low, high })
+// Bytes that are not text, and the place of the first at which they can no longer be well formed (their end, where they
+// stop inside a letter).
+#[derive(Clone, Copy, PartialEq, Eq)]
+pub struct NotText {
+    pub place: usize,
 }
 
-// What a run of bytes is as text: so many characters, or the place of the first byte at which it can no longer be
-// well formed (its end, where it stops inside a letter).
-#[derive(Clone, Copy)]
-pub enum Text {
-    Characters(usize),
-    Stops(usize),
-}
-
-pub fn text_of(bytes: &[u8]) -> Text
+// How many characters a run of bytes is as text.
+pub fn text_of(bytes: &[u8]) -> Result<usize, NotText>
     ensures { text_answered result ≡ text_of bytes.now }
 {
-    let mut owed = fresh();
+    let mut owed = Owed::fresh();
     let mut characters: usize = 0;
-    // ASCII letters, one behind the other
+    // ASCII letters, one after the other
     let mut run: usize = 0;
     let mut at: usize = 0;
+    // by places, since it passes a long run at once; `lead` beside `step`, since with `step` alone each byte is tested twice
     while at < bytes.len() {
         let byte = bytes[at];
-        let tails = owed.tails;
-        characters += begins(owed);
-        if tails == 0 {
-            if byte < 0x80 {
+        characters += owed.begins();
+        owed = if owed.tails == 0 {
+            if byte.is_ascii() {
                 at += 1;
                 run += 1;
                 // fewer are not worth the call
@@ -124,38 +104,30 @@ pub fn text_of(bytes: &[u8]) -> Text
                 }
                 continue;
             }
-            match lead(byte) {
-                Walked::Next(next) => owed = next,
-                Walked::Bad => return Text::Stops(at),
-            }
+            lead(byte).ok_or(NotText { place: at })?
         } else {
-            match step(owed, byte) {
-                Walked::Next(next) => owed = next,
-                Walked::Bad => return Text::Stops(at),
-            }
-        }
+            owed.step(byte).ok_or(NotText { place: at })?
+        };
         at += 1;
         run = 0;
     }
-    let tails = owed.tails;
-    if tails != 0 {
-        return Text::Stops(at);
+    if owed.tails != 0 {
+        return Err(NotText { place: at });
     }
-    Text::Characters(characters)
+    Ok(characters)
 }
 
 // Where the ASCII at the front of bytes ends.
 pub fn ascii_end(bytes: &[u8]) -> usize
     ensures { (result ≤ length bytes.now) × Every (λ b. b < 0x80) (take result bytes.now) × (result < length bytes.now → 0x80 ≤ get_or bytes.now result 0) }
 {
-    let mut at = ascii::wide_end(bytes);
-    while at < bytes.len() {
-        if 0x80 <= bytes[at] {
+    let wide = ascii::wide_end(bytes);
+    for at in wide..bytes.len() {
+        if !bytes[at].is_ascii() {
             return at;
         }
-        at += 1;
     }
-    at
+    bytes.len()
 }
 
 // How many bytes the first characters have, so many at most. They end at a byte that begins no letter; a letter that the
@@ -163,23 +135,16 @@ pub fn ascii_end(bytes: &[u8]) -> usize
 pub fn front(bytes: &[u8], most: usize) -> usize
     ensures { (result ≡ length (front most bytes.now)) × (result ≤ length bytes.now) }
 {
-    let mut left = most;
     let mut at: usize = 0;
-    while at < bytes.len() {
-        if left == 0 {
-            return at;
+    for _ in 0..most {
+        if at == bytes.len() {
+            break;
         }
-        match lead(bytes[at]) {
-            Walked::Next(owed) => {
-                let letter = 1 + owed.tails as usize;
-                if bytes.len() - at < letter {
-                    return bytes.len();
-                }
-                at += letter;
-            }
-            Walked::Bad => return at,
-        }
-        left -= 1;
+        let Some(owed) = lead(bytes[at]) else {
+            break;
+        };
+        let letter = 1 + usize::from(owed.tails);
+        at = bytes.len().min(at + letter);
     }
     at
 }

@@ -1,19 +1,46 @@
 // Reads a journal on standard input and writes its transcript to standard output.
 #![tactic(auto)]
 
-ghost use Rattle.std.specs.Prelude.{◌≡◌, true, ◌+◌, ◌<◌, ◌≤◌, length};
+ghost use Rattle.std.specs.Prelude.{◌≡◌, ◌+◌, ◌≤◌, IfOk, length};
 
 use journal::Transcript;
-use std::io::{Read, Stderr, Stdin, Stdout, Write};
+use std::io::{self, Read, Stderr, Stdin, Stdout, Write};
 
 // How many bytes of each stream are read and written at once.
 const BUFFER: usize = 65536;
 
-// Writes all of the bytes; answers whether that went well.
-fn write_all<W: Write>(to: &mut W, bytes: &[u8]) -> bool {
-    match to.write_all(bytes) {
-        Ok(()) => true,
-        Err(_) => false,
+// A transcript, and how many bytes of the input were used for it.
+#[derive(Clone, Copy)]
+struct Poured {
+    transcript: Transcript,
+    used: usize,
+}
+
+// Where the transcript goes, and the space in which it is made: fixed memory.
+#[derive(Drop)]
+struct Output {
+    packet: [u8; Transcript::BUFFER],
+    space: [u8; BUFFER],
+    stdout: Stdout,
+}
+
+impl Output {
+    // Fills the space and writes it, until the input is used up or reading has ended.
+    fn pour(&mut self, from: Transcript, input: &[u8]) -> io::Result<Poured>
+        ensures { IfOk result (λ p. p.transcript.left + p.used ≡ from.left) }
+    {
+        let mut transcript = from;
+        let mut used = 0;
+        // a fill uses any number of bytes, so the input is not walked by an iterator
+        loop {
+            let filled = transcript.fill(&input[used..], &mut self.packet, &mut self.space);
+            transcript = filled.transcript;
+            used += filled.used;
+            self.stdout.write_all(&self.space[..filled.count])?;
+            if filled.count == 0 || !transcript.is_due() {
+                return Ok(Poured { transcript, used });
+            }
+        }
     }
 }
 
@@ -24,8 +51,7 @@ fn read(stdin: &mut Stdin, stderr: &mut Stderr, buffer: &mut [u8]) -> usize
     match stdin.read(buffer) {
         Ok(n) => n,
         Err(_) => {
-            write_all(
-                stderr,
+            let _ = stderr.write_all(
                 b"transcript: cannot read standard input; the journal is taken to end here\n",
             );
             0
@@ -33,115 +59,35 @@ fn read(stdin: &mut Stdin, stderr: &mut Stderr, buffer: &mut [u8]) -> usize
     }
 }
 
-// How many bytes of the input were used, and whether every write went well.
-#[derive(Clone, Copy)]
-struct Poured {
-    transcript: Transcript,
-    used: usize,
-    written: bool,
-}
-
-// Whether to fill again: something is still due, and what was filled is written.
-fn has_more(transcript: Transcript, count: usize, written: bool) -> bool
-    ensures { result ≡ true → 0 < count }
-{
-    if written {
-        if 0 < count {
-            return transcript.is_due();
-        }
-    }
-    false
-}
-
-// Fills the output and writes it, until the input is used up or reading has ended.
-fn pour(
-    from: Transcript,
-    input: &[u8],
-    packet: &mut [u8],
-    out: &mut [u8],
-    stdout: &mut Stdout,
-) -> Poured
-    ensures { result.transcript.left + result.used ≡ from.left }
-{
-    let mut transcript = from;
-    let mut used = 0;
-    loop {
-        let filled = transcript.fill(&input[used..], packet, out);
-        let next = filled.transcript;
-        let count = filled.count;
-        used += filled.used;
-        let written = write_all(stdout, &out[..count]);
-        let more = has_more(next, count, written);
-        if !more {
-            return Poured {
-                transcript: next,
-                used,
-                written,
-            };
-        }
-        transcript = next;
-    }
-}
-
-// Whether to read on: the writes went well, all n bytes were used and the end has not come.
-fn goes_on(poured: Poured, n: usize) -> bool
-    ensures { result ≡ true → n ≤ poured.used }
-{
-    if poured.used < n {
-        return false;
-    }
-    if poured.written {
-        let transcript = poured.transcript;
-        let done = transcript.is_done();
-        return !done;
-    }
-    false
-}
-
-// Reads until the journal ends or is broken, and before each read writes all that is due. Answers whether every write
-// went well.
-fn run(
-    input: &mut [u8],
-    packet: &mut [u8],
-    out: &mut [u8],
-    stdin: &mut Stdin,
-    stdout: &mut Stdout,
-    stderr: &mut Stderr,
-) -> bool {
+// Reads until the journal ends or is broken, and before each read writes all that is due.
+fn run(stdin: &mut Stdin, stderr: &mut Stderr, output: &mut Output) -> io::Result<()> {
+    let mut input = [0u8; BUFFER];
     let mut transcript = Transcript::start();
     loop {
-        let n = read(stdin, stderr, input);
+        let n = read(stdin, stderr, &mut input);
         if n == 0 {
-            let stopped = transcript.stop(packet);
-            let last = pour(stopped, &input[..n], packet, out, stdout);
-            return last.written;
+            let stopped = transcript.stop(&mut output.packet);
+            output.pour(stopped, &[])?;
+            return Ok(());
         }
-        let poured = pour(transcript, &input[..n], packet, out, stdout);
-        let on = goes_on(poured, n);
-        if !on {
-            return poured.written;
-        }
+        let poured = output.pour(transcript, &input[..n])?;
         transcript = poured.transcript;
+        if poured.used < n || transcript.is_done() {
+            return Ok(());
+        }
     }
 }
 
 fn main(rt: HostRuntime) {
-    let mut packet = [0u8; Transcript::BUFFER];
-    let mut input = [0u8; BUFFER];
-    let mut out = [0u8; BUFFER];
     let mut stdin = rt.stdin();
-    let mut stdout = rt.stdout();
     let mut stderr = rt.stderr();
-    if !run(
-        &mut input,
-        &mut packet,
-        &mut out,
-        &mut stdin,
-        &mut stdout,
-        &mut stderr,
-    ) {
-        write_all(
-            &mut stderr,
+    let mut output = Output {
+        packet: [0u8; Transcript::BUFFER],
+        space: [0u8; BUFFER],
+        stdout: rt.stdout(),
+    };
+    if run(&mut stdin, &mut stderr, &mut output).is_err() {
+        let _ = stderr.write_all(
             b"transcript: cannot write to standard output; the transcript is cut short\n",
         );
     }

@@ -1,9 +1,9 @@
 -- A draft and the lent texts in the terms of the sender: what waits, the blocks kept, and the packet that is written from them.
-use Rattle.std.specs.Prelude.{ℕ, suc, ◌%◌, List, [], ◌∷◌, map, reverse, Bool, true, false, cond, ◌||◌, ltb, eqb, length, take}
+use Rattle.std.specs.Prelude as Prelude
+use Rattle.std.specs.Prelude.{Option, None, Some, Ok, Err, ℕ, suc, ◌%◌, List, [], ◌∷◌, map, reverse, Bool, true, false, cond, ◌||◌, ltb, eqb, length, take}
 use Rattle.writer.specs.declared.Draft.{Draft}
-use Rattle.writer.specs.declared.Answer.{Answer}
-use Rattle.writer.specs.declared.Answer.TheVariants.{Refused, Quiet, Sent}
 use Rattle.base.specs.Arrays.{over}
+use Rattle.packet.specs.declared.Refusal.{Refusal}
 use Rattle.packet.specs.declared.Refusal.TheVariants.{Space}
 use Rattle.packet.specs.Refusal.{number}
 use Rattle.packet_spec.specs.Reading.{Content}
@@ -25,17 +25,17 @@ kept_in texts room lens ats count = take count (blocks_from texts room 1 lens at
 
 -- the older blocks that the packet repeats, newest first
 abbrev pub carried_by : Draft → List ℕ → List SentBlock
-carried_by d texts = recent_run d.clock (take d.level (kept_in texts d.room d.lens d.ats d.count))
+carried_by d texts = recent_run d.clock (take d.heading.level (kept_in texts d.room d.kept.lens d.kept.ats d.kept.count))
 
 abbrev pub draft_primary : Draft → List ℕ → List ℕ
 draft_primary d texts = waiting_in texts d.room d.len
 
 abbrev pub draft_content : Draft → List ℕ → Content
 draft_content d texts = record {
-  marker = d.marker;
-  sequence = d.sequence;
-  timestamp = d.timestamp;
-  source = d.source;
+  marker = d.heading.marker;
+  sequence = d.heading.sequence;
+  timestamp = d.heading.timestamp;
+  source = d.heading.source;
   older = map (repeated d.clock) (reverse (carried_by d texts));
   primary = draft_primary d texts;
 }
@@ -43,27 +43,21 @@ draft_content d texts = record {
 -- a payload type has 7 bits
 abbrev pub draft_packet : Draft → List ℕ → List ℕ
 draft_packet d texts =
-    cond (eqb d.level 0) (plain_bytes (d.t140 % 128) (draft_content d texts)) (redundant_bytes (d.t140 % 128) (d.red % 128) (draft_content d texts))
+    cond (eqb d.heading.level 0) (plain_bytes (d.heading.t140 % 128) (draft_content d texts)) (redundant_bytes (d.heading.t140 % 128) (d.heading.red % 128) (draft_content d texts))
+
+-- what the clock call answers: the length of the packet, or nothing to send
+abbrev pub Answered : Type 0
+Answered = Prelude.Result (Option ℕ) Refusal
 
 -- the code's answer in the terms of 01
-abbrev pub clock_answer : Answer → ClockAnswer
-clock_answer (Refused r) = refused (number r)
-clock_answer Quiet = quiet
-clock_answer (Sent n) = sent n
+abbrev pub clock_answer : Answered → ClockAnswer
+clock_answer (Err r) = refused (number r)
+clock_answer (Ok None) = quiet
+clock_answer (Ok (Some n)) = sent n
 
 -- by the length of the packet, 0 where there is nothing to send, and the length of the space
-abbrev pub answer_by : ℕ → ℕ → Answer
-answer_by n space = cond (eqb n 0) Quiet (cond (ltb space n) (Refused Space) (Sent n))
-
-abbrev pub is_quiet : Answer → Bool
-is_quiet (Refused r) = false
-is_quiet Quiet = true
-is_quiet (Sent n) = false
-
-abbrev pub is_sent : Answer → Bool
-is_sent (Refused r) = false
-is_sent Quiet = false
-is_sent (Sent n) = true
+abbrev pub answer_by : ℕ → ℕ → Answered
+answer_by n space = cond (eqb n 0) (Ok None) (cond (ltb space n) (Err Space) (Ok (Some n)))
 
 -- what is answered, and the lent space afterwards
 pub record Result : Type 0 where

@@ -1,12 +1,11 @@
 // Writes the texts of a packet.
 ghost use Rattle.std.specs.Prelude.{◌≡◌, ◌+◌, ◌*◌, ◌≤◌, length};
 ghost use Rattle.base.specs.Arrays.{over};
-ghost use Rattle.packet_spec.specs.Limits.{level};
 ghost use Rattle.sender_spec.specs.Limits.{room_size};
-ghost use Rattle.carrying.specs.Internal.Young.{TagFirst};
 ghost use Rattle.slots.specs.Slots.{slots, slot_of, slot_text, texts_size};
 ghost use Rattle.writer.specs.Internal.Parts.{texts_of};
 
+use carrying::Carried;
 use packet::Packet;
 use slots::Texts;
 
@@ -28,19 +27,17 @@ fn start(room: usize, back: usize) -> usize
 
 // The text of so many packets back, or with 0 what waits; its length. A typed text is a letter or two: so few go one by one, which
 // costs less than a copy made for many.
-fn put_text(to: &mut [u8], texts: &[u8], room: usize, back: usize, len: usize) -> usize
-    requires { (length texts.now ≡ texts_size) × (back ≤ slots) × (length (slot_text texts.now (slot_of room back) len) ≤ length to.old) }
+fn put_text(to: &mut [u8], texts: &[u8; Texts::SIZE], room: usize, back: usize, len: usize) -> usize
+    requires { (back ≤ slots) × (length (slot_text texts.now (slot_of room back) len) ≤ length to.old) }
     ensures { (result ≡ length (slot_text texts.now (slot_of room back) len)) × (to.new ≡ over (slot_text texts.now (slot_of room back) len) to.old) }
 {
     let from = start(room, back);
     if len < SHORT {
-        let end = from + len;
-        copy_few(&texts[from..end], to);
+        copy_few(&texts[from..from + len], to);
         return len;
     }
-    let size = numbers::least(len, Texts::ROOM);
-    let end = from + size;
-    copying::copy(&texts[from..end], to);
+    let size = len.min(Texts::ROOM);
+    copying::copy(&texts[from..from + size], to);
     size
 }
 
@@ -49,35 +46,30 @@ fn copy_few(src: &[u8], dst: &mut [u8])
     requires { length src.now ≤ length dst.old }
     ensures { dst.new ≡ over src.now dst.old }
 {
-    let mut i = 0;
-    while i < src.len() {
-        dst[i] = src[i];
-        i += 1;
+    for (i, byte) in src.iter().enumerate() {
+        dst[i] = *byte;
     }
 }
 
-// The texts of the first `count` blocks, the last of them first, and what waits. The loop is such that it is unrolled, as that of
-// the block headers is.
+// The texts of the older blocks, the last of them first, and what waits. The loop is such that it is unrolled, as that of the block
+// headers is.
 pub fn put_texts(
     to: &mut [u8],
-    texts: &[u8],
+    texts: &[u8; Texts::SIZE],
     room: usize,
-    tags: [u64; Packet::LEVEL],
+    carried: Carried,
     len: usize,
-    count: usize,
 )
-    requires { (length texts.now ≡ texts_size) × (count ≤ level) × (length (texts_of texts.now room tags len count) ≤ length to.old) × TagFirst tags count }
-    ensures { to.new ≡ over (texts_of texts.now room tags len count) to.old }
+    requires { length (texts_of texts.now room carried.tags len carried.count) ≤ length to.old }
+    ensures { to.new ≡ over (texts_of texts.now room carried.tags len carried.count) to.old }
 {
-    let mut i = Packet::LEVEL;
     let mut at = 0;
-    while 0 < i {
-        let back = i;
-        i -= 1;
-        let tag = tags[i];
+    for i in (0..Packet::LEVEL).rev() {
+        let tag = carried.tags[i];
         if 0 < tag {
+            // `as`: there is no From between u64 and usize
             let n = (tag % 256) as usize;
-            at += put_text(&mut to[at..], texts, room, back, n);
+            at += put_text(&mut to[at..], texts, room, i + 1, n);
         }
     }
     put_text(&mut to[at..], texts, room, 0, len);

@@ -16,12 +16,12 @@ returns-in-Opened c =
 pub returns-in-Ended : goal.returns-in-Ended
 returns-in-Ended c =
     let a = c.args in
-    ended a.part a.size a.receiver a.counts a.packet.now _ _ c.in-Ended.is c.finish-due.ensures
+    ended a.part a.size a.receiver a.counts a.packet.now _ _ c.in-Ended.is c.finish.ensures
 
 pub returns-in-Broken : goal.returns-in-Broken
 returns-in-Broken c =
     let a = c.args in
-    broken a.part a.size a.receiver a.counts a.packet.now _ _ c.in-Broken.is c.break_off-due.ensures
+    broken a.part a.size a.receiver a.counts a.packet.now _ _ c.in-Broken.is c.break_off.ensures
 
 pub returns-in_default : goal.returns-in_default
 returns-in_default c =

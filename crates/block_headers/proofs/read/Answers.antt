@@ -1,25 +1,18 @@
-use Prim.Native.Nat.{◌+◌, ◌-◌}
-use mathlib.Core.Path.{◌≡◌, ◌∙◌, ap, sym}
-use mathlib.Core.Bool.{true}
-use native.Mathlib.Omega.{arith}
-use lib.ListN.{length}
-use lib.Seq.{slice, length-slice}
+use Rattle.std.proofs.Common.{true, ◌≡◌, ◌∙◌, ◌+◌, ◌-◌, length, ap, sym, arith}
+use Rattle.std.proofs.Math.Seq.{slice, length-slice}
 use Rattle.block_headers.specs.Internal.Seen.{seen_before, headers_of}
 use Rattle.block_headers.proofs.HeadersByFacts.{crossed, outside, none_inside, some_inside}
 use Rattle.block_headers.proofs.read.Goals as goal
+use Rattle.block_headers.proofs.read.Goals.{then-end-from-via-then-end-from, then-end-from-via-else-end-from+then-packet-end}
 
 pub returns-then-end-from : goal.returns-then-end-from
 unfolding headers_of
 returns-then-end-from c =
     let a = c.args in
-    c.refused.ensures ∙ ap (seen_before a.end) (sym (crossed a.plain a.t140 a.packet.now a.from a.end c.if-end-from.true))
-
-pub returns-then-packet-end : goal.returns-then-packet-end
-unfolding headers_of
-returns-then-packet-end c =
-    let a = c.args in
-    c.refused-then-packet-end.ensures
-    ∙ ap (seen_before a.end) (sym (outside a.plain a.t140 a.packet.now a.from a.end c.if-end-from.false c.if-packet-end.true))
+    elim c.then-end-from.branch [
+      | then-end-from-via-then-end-from w ↦ ap (seen_before a.end) (sym (crossed a.plain a.t140 a.packet.now a.from a.end w.if-end-from.true))
+      | then-end-from-via-else-end-from+then-packet-end w ↦ ap (seen_before a.end) (sym (outside a.plain a.t140 a.packet.now a.from a.end w.if-end-from.false w.if-packet-end.true))
+    ]
 
 pub returns-then-plain : goal.returns-then-plain
 unfolding headers_of

@@ -1,4 +1,4 @@
-use Prim.Native.Nat.{ℕ, suc, ◌+◌, ◌-◌, ◌<◌}
+use Prim.Native.Nat.{ℕ, suc, ◌+◌, ◌-◌}
 use mathlib.Core.Path.{◌≡◌, ◌∙◌, refl, ap, sym}
 use mathlib.Core.List.{List, [], ◌∷◌, ◌++◌, map}
 use mathlib.Core.Bool.{Bool, ◌&&◌}
@@ -22,33 +22,20 @@ offsets_snoc : (hs : List Head) (h : Head) → map (λ (x : Head). x.offset) (hs
 offsets_snoc [] h = refl
 offsets_snoc (x ∷ xs) h = ap (λ (l : List ℕ). x.offset ∷ l) (offsets_snoc xs h)
 
--- what was read, and what is left to read
-record Got (t140 : ℕ) (p : List ℕ) (from end count at total last : ℕ) (fall : Bool) : Type 0 where
-  hs : List Head
-  many : length hs ≡ count
-  bytes : Heads.total hs ≡ total
-  ages : (x : ℕ) → x < 16384 → fall_to (map (λ (h : Head). h.offset) hs) x ≡ (fall && ltb x last)
-  rest : headers t140 level [] (slice from end p) ≡ headers t140 (level - count) hs (slice at end p)
-
 pub returns-then-end-at : goal.returns-then-end-at
 returns-then-end-at c =
     let a = c.args in
     let l = c.loop-at in
     let g = l.invariant.3 in
-    c.refused.ensures
-    ∙ ap (seen_before a.end) (sym (g.rest ∙ at_end a.t140 (level - l.count) g.hs a.packet.now l.at a.end c.if-end-at.true))
+    ap (seen_before a.end) (sym (g.rest ∙ at_end a.t140 (level - l.count) g.hs a.packet.now l.at a.end c.if-end-at.true))
 
 pub returns-then-b-t140 : goal.returns-then-b-t140
 returns-then-b-t140 c =
     let a = c.args in
     let l = c.loop-at in
     let g = l.invariant.3 in
-    c.refused-then-b-t140.ensures
-    ∙ ap (seen_before a.end)
+    ap (seen_before a.end)
     (sym (g.rest ∙ at_last_other a.t140 g.hs a.packet.now l.at a.end c.if-end-at.false (search rules) (level - l.count) c.if-b-lt128.true c.if-b-t140.true))
-
-pub overflow_add-result : goal.overflow_add-result
-overflow_add-result c = omega (arith, level_most)
 
 pub returns-then-b-lt128 : goal.returns-then-b-lt128
 returns-then-b-lt128 c =
@@ -73,8 +60,7 @@ returns-then-count-eq-LEVEL c =
     let g = l.invariant.3 in
     let p = a.packet.now in
     let n : level - l.count ≡ 0 = omega arith in
-    c.refused-then-count-eq-LEVEL.ensures
-    ∙ ap (seen_before a.end)
+    ap (seen_before a.end)
     (sym (g.rest ∙ ap (λ (m : ℕ). headers a.t140 m g.hs (slice l.at a.end p)) n
     ∙ at_too_many a.t140 g.hs p l.at a.end c.if-end-at.false (search rules) c.if-b-lt128.false))
 
@@ -86,8 +72,7 @@ returns-then-end-at-2 c =
     let g = l.invariant.3 in
     let p = a.packet.now in
     let n : level - l.count ≡ suc (level - (l.count + 1)) = omega arith in
-    c.refused-then-end-at-2.ensures
-    ∙ ap (seen_before a.end)
+    ap (seen_before a.end)
     (sym (g.rest ∙ ap (λ (m : ℕ). headers a.t140 m g.hs (slice l.at a.end p)) n
     ∙ at_cut_short a.t140 g.hs p l.at a.end c.if-end-at.false (search rules) c.if-b-lt128.false (level - (l.count + 1)) c.if-end-at-2.true))
 
@@ -99,16 +84,9 @@ returns-then-b-t140-2 c =
     let g = l.invariant.3 in
     let p = a.packet.now in
     let n : level - l.count ≡ suc (level - (l.count + 1)) = omega arith in
-    c.refused-then-b-t140-2.ensures
-    ∙ ap (seen_before a.end)
+    ap (seen_before a.end)
     (sym (g.rest ∙ ap (λ (m : ℕ). headers a.t140 m g.hs (slice l.at a.end p)) n
     ∙ at_older_other a.t140 g.hs p l.at a.end c.if-end-at.false (search rules) c.if-b-lt128.false c.if-end-at-2.false (level - (l.count + 1)) c.if-b-t140-2.true))
-
-pub overflow_add-total : goal.overflow_add-total
-overflow_add-total c = omega (arith, level_most)
-
-pub overflow_add-count : goal.overflow_add-count
-overflow_add-count c = omega (arith, level_most)
 
 pub loop-at-smaller : goal.loop-at-smaller
 unfolding level
@@ -131,7 +109,7 @@ loop-at-preserved c =
       record {
         hs = g.hs ++ (h ∷ []);
         many = length-append g.hs (h ∷ []) ∙ ap (λ (k : ℕ). k + 1) g.many;
-        bytes = total_snoc g.hs h ∙ ap (λ (k : ℕ). k + h.len) g.bytes ∙ ap (λ (x : Head). l.total + x.len) (sym is);
+        bytes = total_snoc g.hs h ∙ ap (λ (k : ℕ). k + h.len) g.bytes ∙ ap (λ (x : Head). l.total + x.len) (sym is) ∙ ap (λ (k : ℕ). l.total + k) (sym c.from-total.ensures);
         ages = λ x small.
             ap (λ (os : List ℕ). fall_to os x) (offsets_snoc g.hs h)
             ∙ fall_more (map (λ (y : Head). y.offset) g.hs) h.offset x

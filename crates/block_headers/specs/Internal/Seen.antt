@@ -1,11 +1,12 @@
 -- What is seen of the block headers of a payload: 01's number, and where that is 0 how many older blocks there are, where the oldest
 -- block and the primary start, and whether ages fall.
-use Rattle.std.specs.Prelude.{ℕ, ◌+◌, ◌-◌, List, [], Bool, false, cond, ◌||◌, ltb, length}
+use Rattle.std.specs.Prelude.{ℕ, ◌+◌, ◌-◌, List, [], Bool, false, cond, ◌||◌, ltb, length, Result, Ok, Err}
 use Rattle.std.proofs.Math.Seq.{slice}
 use Rattle.block_headers.specs.declared.Headers.{Headers}
 use Rattle.packet_spec.specs.Limits.{level}
 use Rattle.packet_spec.specs.Redundancy.{Heads, heads, bad, headers, total, ages_fall}
-use Rattle.packet.specs.Refusal.{outcome_number}
+use Rattle.packet.specs.declared.Refusal.{Refusal}
+use Rattle.packet.specs.Refusal.{number}
 
 pub record HeadersSeen : Type 0 where
   pub number : ℕ
@@ -14,11 +15,12 @@ pub record HeadersSeen : Type 0 where
   pub primary : ℕ
   pub fall : Bool
 
-abbrev pub headers_seen : Headers → HeadersSeen
-headers_seen h = record { number = outcome_number h.outcome; count = h.count; first = h.first; primary = h.primary; fall = h.ages_fall }
-
 abbrev pub refused_heads : ℕ → HeadersSeen
 refused_heads n = record { number = n; count = 0; first = 0; primary = 0; fall = false }
+
+abbrev pub headers_seen : Result Headers Refusal → HeadersSeen
+headers_seen (Ok h) = record { number = 0; count = h.count; first = h.first; primary = h.primary; fall = h.ages_fall }
+headers_seen (Err r) = refused_heads (number r)
 
 -- of a payload that ends at a place
 abbrev pub seen_before : ℕ → Heads → HeadersSeen

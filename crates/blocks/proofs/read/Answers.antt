@@ -1,32 +1,27 @@
-use mathlib.Core.Path.{◌∙◌, sym}
-use lib.ListN.{drop}
-use lib.Seq.{slice}
-use Rattle.packet.specs.Refusal.{number}
-use Rattle.packet_spec.specs.Redundancy.{heads, bad}
+use Rattle.std.proofs.Common.{◌∙◌, drop, sym, rules}
+use Rattle.std.proofs.Math.Seq.{slice}
+use Rattle.packet_spec.specs.Redundancy.{heads}
 use Rattle.packet_spec.specs.Internal.Heads.{heads_in}
 use Rattle.block_headers.proofs.AnswerTells.{refused_told, accepted_told}
 use Rattle.blocks.proofs.SeenByFacts.{behind}
 use Rattle.blocks.proofs.read.Goals as goal
 
+pub returns-in_err-headers : goal.returns-in_err-headers
+returns-in_err-headers c =
+    let a = c.args in
+    let told = behind a.plain a.t140 a.packet.now a.from a.end _ (refused_told a.plain a.t140 a.packet.now a.from a.end _ c.in_err-headers.ensures) in
+    search (rules, told)
+
 pub read_blocks-requires : goal.read_blocks-requires
 read_blocks-requires c =
-    let q = c in
-    let a = q.args in
-    let t = accepted_told a.plain a.t140 a.packet.now a.from a.end q.read-headers.result q.read-headers.ensures c.in-Accepted.is in
+    let a = c.args in
+    let t = accepted_told a.plain a.t140 a.packet.now a.from a.end c.in_ok-headers.headers c.in_ok-headers.ensures in
     (t.room, t.ahead, t.within, t.bytes, t.fall)
 
-pub returns-in-Refused : goal.returns-in-Refused
-returns-in-Refused c =
-    let q = c in
-    let a = q.args in
-    c.refused.ensures
-    ∙ sym (behind a.plain a.t140 a.packet.now a.from a.end (bad (number c.in-Refused.refusal)) (refused_told a.plain a.t140 a.packet.now a.from a.end q.read-headers.result q.read-headers.ensures c.in-Refused.refusal c.in-Refused.is))
-
-pub returns-in-Accepted : goal.returns-in-Accepted
-returns-in-Accepted c =
-    let q = c in
-    let a = q.args in
+pub returns : goal.returns
+returns c =
+    let a = c.args in
     let p = a.packet.now in
-    let r = q.read-headers.result in
+    let h = c.in_ok-headers.headers in
     c.read_blocks.ensures
-    ∙ sym (behind a.plain a.t140 p a.from a.end (heads (heads_in r.count (drop a.from p)) (slice r.first a.end p)) (accepted_told a.plain a.t140 p a.from a.end r q.read-headers.ensures c.in-Accepted.is).are)
+    ∙ sym (behind a.plain a.t140 p a.from a.end (heads (heads_in h.count (drop a.from p)) (slice h.first a.end p)) (accepted_told a.plain a.t140 p a.from a.end h c.in_ok-headers.ensures).are)

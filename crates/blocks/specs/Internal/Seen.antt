@@ -1,11 +1,12 @@
 -- What is seen of the blocks of a payload: 01's number, and where that is 0 how many older blocks there are, and where the oldest
 -- and the primary start.
-use Rattle.std.specs.Prelude.{ℕ, ◌+◌, ◌-◌, List, Bool, length}
+use Rattle.std.specs.Prelude.{ℕ, ◌+◌, ◌-◌, List, Bool, length, Result, Ok, Err}
 use Rattle.blocks.specs.declared.Blocks.{Blocks}
 use Rattle.base.specs.Checks.{checked}
 use Rattle.packet_spec.specs.Redundancy.{Head, Heads, heads, bad, total}
 use Rattle.packet_spec.specs.Reading.{block_checks}
-use Rattle.packet.specs.Refusal.{outcome_number}
+use Rattle.packet.specs.declared.Refusal.{Refusal}
+use Rattle.packet.specs.Refusal.{number}
 use Rattle.block_headers.specs.Internal.Seen.{heads_within}
 
 pub record BlocksSeen : Type 0 where
@@ -14,11 +15,12 @@ pub record BlocksSeen : Type 0 where
   pub first : ℕ
   pub primary : ℕ
 
-abbrev pub blocks_seen : Blocks → BlocksSeen
-blocks_seen b = record { number = outcome_number b.outcome; count = b.count; first = b.first; primary = b.primary }
-
 abbrev pub refused_blocks : ℕ → BlocksSeen
 refused_blocks n = record { number = n; count = 0; first = 0; primary = 0 }
+
+abbrev pub blocks_seen : Result Blocks Refusal → BlocksSeen
+blocks_seen (Ok b) = record { number = 0; count = b.count; first = b.first; primary = b.primary }
+blocks_seen (Err r) = refused_blocks (number r)
 
 -- blocks that lie one behind the other, of a payload that ends at a place
 abbrev pub placed_blocks : ℕ → List Head → List ℕ → BlocksSeen

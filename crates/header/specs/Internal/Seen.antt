@@ -1,11 +1,12 @@
 -- What is seen of a header: 01's number, and where that is 0 the fixed fields, whether the payload is plain (of type T140), and
 -- where it lies.
-use Rattle.std.specs.Prelude.{ℕ, List, Bool, false, eqb}
+use Rattle.std.specs.Prelude.{ℕ, List, Bool, false, eqb, Result, Ok, Err}
 use Rattle.header.specs.declared.Header.{Header}
 use Rattle.base.specs.Checks.{checked}
 use Rattle.packet_spec.specs.Header.{Expected, marker_of, sequence_of, timestamp_of, source_of, payload_type, header_end, payload_end}
 use Rattle.packet_spec.specs.Reading.{header_checks}
-use Rattle.packet.specs.Refusal.{outcome_number}
+use Rattle.packet.specs.declared.Refusal.{Refusal}
+use Rattle.packet.specs.Refusal.{number}
 
 pub record HeaderSeen : Type 0 where
   pub number : ℕ
@@ -17,9 +18,12 @@ pub record HeaderSeen : Type 0 where
   pub from : ℕ
   pub end : ℕ
 
-abbrev pub header_seen : Header → HeaderSeen
-header_seen h = record {
-  number = outcome_number h.outcome;
+abbrev pub refused_header : ℕ → HeaderSeen
+refused_header n = record { number = n; plain = false; marker = false; sequence = 0; timestamp = 0; source = 0; from = 0; end = 0 }
+
+abbrev pub header_seen : Result Header Refusal → HeaderSeen
+header_seen (Ok h) = record {
+  number = 0;
   plain = h.plain;
   marker = h.marker;
   sequence = h.sequence;
@@ -28,9 +32,7 @@ header_seen h = record {
   from = h.from;
   end = h.end;
 }
-
-abbrev pub refused_header : ℕ → HeaderSeen
-refused_header n = record { number = n; plain = false; marker = false; sequence = 0; timestamp = 0; source = 0; from = 0; end = 0 }
+header_seen (Err r) = refused_header (number r)
 
 abbrev pub passed_header : ℕ → List ℕ → HeaderSeen
 passed_header t140 p = record {

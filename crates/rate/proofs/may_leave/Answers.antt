@@ -11,5 +11,5 @@ returns-then-used-slots c =
 pub returns : goal.returns
 returns c =
     let a = c.args in
-    rw (c.passed.ensures, c.around-slot.ensures)
+    rw (c.saturating_sub.ensures, c.around-slot.ensures)
     (sym (fits_slot a.slots a.log.now a.at a.used a.clock a.characters (omega arith) (omega arith) (omega arith) (omega arith)))

@@ -4,8 +4,5 @@ use lib.ListN.{length, drop}
 use Rattle.text_spec.specs.Front.{front}
 use Rattle.text.proofs.front.Given as goal
 
-abbrev pub invariant-loop-at : goal.invariant-loop-at
-invariant-loop-at l = (l.at ≤ length l.bytes) × (length (front l.most l.bytes) ≡ l.at + length (front l.left (drop l.at l.bytes)))
-
-abbrev pub decreases-loop-at : goal.decreases-loop-at
-decreases-loop-at l = length l.bytes - l.at
+abbrev pub invariant-loop : goal.invariant-loop
+invariant-loop l = (l.at ≤ length l.bytes) × (length (front l.most l.bytes) ≡ l.at + length (front (l.most - l.counter) (drop l.at l.bytes)))

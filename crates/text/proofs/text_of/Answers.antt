@@ -4,6 +4,7 @@ use mathlib.Core.List.{List}
 use mathlib.Core.Option.{some}
 use native.Mathlib.Omega.{arith}
 use lib.ListN.{length, get_or, take, drop}
+use Rattle.std.proofs.lemmas.Grind.{common_steps}
 use borrow.Author.Rules.{rules}
 use Rattle.text.specs.declared.Owed.{Owed}
 use Rattle.text.specs.Owed.{owes}
@@ -36,11 +37,12 @@ pub loop-at-preserved-then-run-eq8 : goal.loop-at-preserved-then-run-eq8
 loop-at-preserved-then-run-eq8 c =
     let l = c.loop-at in
     let s = c.args.bytes.now in
-    let b = c.begins-characters in (
+    let b = c.begins-characters in
+    let a : get_or s l.at 0 < 0x80 = grind (arith, common_steps) in (
       search rules,
       omega (arith, b.ensures.1),
       omega arith,
       l.invariant.3
-          ∙ ascii_run s l.owed l.characters l.at b.result c.loop-at-test.true b.ensures.0 c.if-tails-eq0.true c.if-byte-lt128.true
+          ∙ ascii_run s l.owed l.characters l.at b.result c.loop-at-test.true b.ensures.0 c.if-owed-eq0.true a
           c.ascii_end-more.result c.ascii_end-more.ensures.0 c.ascii_end-more.ensures.1,
     )

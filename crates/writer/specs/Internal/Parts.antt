@@ -1,7 +1,6 @@
 -- What the parts of a packet come to, by the ages and lengths of the blocks kept, newest first.
-use Rattle.std.specs.Prelude.{ℕ, suc, ◌+◌, ◌*◌, ◌%◌, List, ◌++◌, cond, eqb, get_or}
+use Rattle.std.specs.Prelude.{ℕ, suc, ◌%◌, List, ◌++◌, get_or}
 use Rattle.writer.specs.declared.Draft.{Draft}
-use Rattle.writer.specs.declared.heading.Front.{Front}
 use Rattle.writer.specs.Internal.LastFirst.{last_first}
 use Rattle.writer.specs.Internal.Headers.{front_with}
 use Rattle.slots.specs.Slots.{slot_of, slot_text}
@@ -17,23 +16,6 @@ waiting_at texts room len = slot_text texts (slot_of room 0) len
 abbrev pub texts_of : List ℕ → ℕ → List ℕ → ℕ → ℕ → List ℕ
 texts_of texts room tags len n = last_first (text_at texts room tags) (waiting_at texts room len) n
 
--- what the headers are written from
-abbrev pub front_in : Draft → List ℕ → Front
-front_in d tags = record {
-  level = d.level;
-  t140 = d.t140;
-  red = d.red;
-  marker = d.marker;
-  sequence = d.sequence;
-  timestamp = d.timestamp;
-  source = d.source;
-  tags = tags;
-}
-
 -- a packet that repeats n blocks
 abbrev pub packet_with : Draft → List ℕ → List ℕ → ℕ → List ℕ
-packet_with d tags texts n = front_with (front_in d tags) n ++ texts_of texts d.room tags d.len n
-
--- its length, by the bytes of its older texts and of its primary
-abbrev pub packet_size : ℕ → ℕ → ℕ → ℕ → ℕ
-packet_size R n older primary = cond (eqb R 0) (12 + primary) (12 + (4 * n + 1 + (older + primary)))
+packet_with d tags texts n = front_with d.heading tags n ++ texts_of texts d.room tags d.len n

@@ -1,12 +1,12 @@
-use Prim.Native.Nat.{◌≤◌, ◌-◌}
+use Prim.Native.Nat.{◌-◌}
 use mathlib.Core.Path.{◌≡◌}
 use lib.ListN.{length}
-use Rattle.journal_spec.specs.Contents.{longest_packet}
 use Rattle.records.specs.Internal.Turns.{Went}
 use Rattle.records.proofs.steps.turns.Given as goal
 
-abbrev pub invariant-loop-i : goal.invariant-loop-i
-invariant-loop-i l = Went l.initial.now_at l.initial.packet l.input l.now_at l.packet l.i × (length l.packet ≡ length l.initial.packet) × (longest_packet ≤ length l.packet)
+abbrev pub invariant-loop-used : goal.invariant-loop-used
+invariant-loop-used l =
+    Went l.initial.reader l.initial.packet l.input l.reader l.packet l.used × (length l.packet ≡ length l.initial.packet)
 
-abbrev pub decreases-loop-i : goal.decreases-loop-i
-decreases-loop-i l = length l.input - l.i
+abbrev pub decreases-loop-used : goal.decreases-loop-used
+decreases-loop-used l = length l.input - l.used

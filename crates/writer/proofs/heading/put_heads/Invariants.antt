@@ -6,7 +6,4 @@ use Rattle.writer.proofs.Turns.{Turn}
 use Rattle.writer.proofs.heading.put_heads.Given as goal
 
 abbrev pub invariant-loop-i : goal.invariant-loop-i
-invariant-loop-i l = (l.i ≤ level) × Turn (header_at l.t140 l.tags) (l.t140 ∷ []) l.count l.initial.to l.to l.i l.at
-
-abbrev pub decreases-loop-i : goal.decreases-loop-i
-decreases-loop-i l = l.i
+invariant-loop-i l = (l.i ≤ level) × Turn (header_at l.t140 l.carried.tags) (l.t140 ∷ []) l.carried.count l.initial.to l.to l.i l.at

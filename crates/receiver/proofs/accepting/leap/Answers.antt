@@ -1,6 +1,0 @@
-use Rattle.std.proofs.Common.{arith}
-use Rattle.packet_spec.proofs.Limits.{level_most}
-use Rattle.receiver.proofs.accepting.leap.Goals as goal
-
-pub overflow_add-given : goal.overflow_add-given
-overflow_add-given c = omega (arith, level_most)

@@ -1,7 +1,0 @@
-use borrow.Author.Rules.{rules}
-use Rattle.packet_spec.specs.Limits.{level}
-use Rattle.sender.proofs.opening.fresh.Goals as goal
-
-pub returns : goal.returns
-unfolding level
-returns c = search rules
