@@ -51,15 +51,16 @@ impl Kept {
         let mut count = 0;
         let mut text = 0;
         let mut tags = [0; Packet::LEVEL];
-        for i in 0..Packet::LEVEL {
+        for (i, at) in self.ats.iter().enumerate() {
             // two tests: joined by `||`, both are always made
             if i == most {
                 break;
             }
-            let age = clock.saturating_sub(self.ats[i]);
+            let age = clock.saturating_sub(*at);
             if Block::OLDEST < age {
                 break;
             }
+            // by the place: std has no lemma on a zip with `iter_mut`, as of the tags
             let size = self.lens[i].min(Block::ROOM);
             // `as`: there is no From between usize and u64
             tags[i] = (16384 + age) * 256 + size as u64;

@@ -18,7 +18,7 @@ fn put_named(name: &[u8], n: u64, space: &mut [u8]) -> usize
     at + printing::put(&digits[..k], &mut space[at..])
 }
 
-// The line of counts.
+// The line of counts: four numbers, since what counts them stands above, over the receiver.
 pub fn put_counts(packets: u64, late: u64, lost: u64, refused: u64, space: &mut [u8]) -> usize
     ensures { (result ≡ length (fitting (counts_line packets late lost refused) space.old)) × (space.new ≡ over (fitting (counts_line packets late lost refused) space.old) space.old) × (result ≤ length space.old) }
 {

@@ -69,9 +69,9 @@ impl Pace {
             return most;
         }
         let at = circle::place(slots, self.next);
-        for fewer in (0..most).rev() {
-            if may_leave(slots, log, at, self.used, clock, fewer + 1) {
-                return fewer + 1;
+        for fewer in (1..=most).rev() {
+            if may_leave(slots, log, at, self.used, clock, fewer) {
+                return fewer;
             }
         }
         0

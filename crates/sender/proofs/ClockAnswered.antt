@@ -26,7 +26,9 @@ use Rattle.settings.specs.Judging as Judging
 use Rattle.settings.specs.Judging.{Judgement, refuses, ready, judged, judgement_of}
 use Rattle.slots.specs.Slots.{texts_size}
 use Rattle.writer.specs.Draft as Draft
-use Rattle.rate.specs.Circle.{slots_of, log_size}
+use Rattle.rate.specs.declared.Pace.{Pace}
+use Rattle.rate.specs.Circle.{slots_of, spent_in, log_size}
+use Rattle.slots.specs.Slots.{rest_kept}
 use Rattle.rate.proofs.Circle.{slots_limit}
 use Rattle.slots.proofs.Slots.{waiting_length}
 use Rattle.settings.specs.State.{settings_of}
@@ -88,6 +90,35 @@ abbrev pub WhereSent : Answered → Type 0 → Type 0
 WhereSent (Err q) A = Unit {0}
 WhereSent (Ok None) A = Unit {0}
 WhereSent (Ok (Some l)) A = A
+
+abbrev pub is_sent : Answered → Bool
+is_sent (Err q) = false
+is_sent (Ok None) = false
+is_sent (Ok (Some l)) = true
+
+pub where_sent : {A : Type 0} (r : Answered) → A → WhereSent r A
+where_sent (Err q) a = tt
+where_sent (Ok None) a = tt
+where_sent (Ok (Some l)) a = a
+
+pub where_not : (A : Type 0) (r : Answered) → is_sent r ≡ false → WhereSent r A
+where_not A (Err q) e = tt
+where_not A (Ok None) e = tt
+where_not A (Ok (Some l)) e = absurd (subst Holds e tt)
+
+-- what changes with a packet alone
+module _ (s : Sender) (texts log : List ℕ) (t n k : ℕ) where
+  pub sent_behind : (r : Answered) → is_sent r ≡ true
+      → (texts_behind r s texts n ≡ rest_kept s.waiting.room s.waiting.len n texts) × (log_behind r s log t k ≡ spent_in (slots_of s.settings.rate) log s.pace.next t k)
+  sent_behind (Err q) e = absurd (subst Holds (sym e) tt)
+  sent_behind (Ok None) e = absurd (subst Holds (sym e) tt)
+  sent_behind (Ok (Some l)) e = (refl, refl)
+
+  pub rest_stays : (r : Answered) → is_sent r ≡ false → (p q : Pace)
+      → (texts_behind r s texts n ≡ texts) × (log_behind r s log t k ≡ log) × (record_behind r s t n k p ≡ record_behind r s t n k q)
+  rest_stays (Err q) e p p' = (refl, refl, refl)
+  rest_stays (Ok None) e p p' = (refl, refl, refl)
+  rest_stays (Ok (Some l)) e p p' = absurd (subst Holds e tt)
 
 abbrev sender_for : ClockAnswer → State.Sender → ℕ → State.Sender
 sender_for (refused n) s t = s

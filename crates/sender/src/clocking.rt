@@ -76,13 +76,9 @@ pub fn put(
         characters: going,
         pace,
     };
-    match writer::answer_by(size, packet.len()) {
-        Ok(Some(_)) => {
-            sending.pace = pace.spend(settings.rate, log, clock, going);
-            slots::keep_rest(texts, waiting.room, waiting.len, len);
-        }
-        Ok(None) => {}
-        Err(_) => {}
+    if matches!(writer::answer_by(size, packet.len()), Ok(Some(_))) {
+        sending.pace = pace.spend(settings.rate, log, clock, going);
+        waiting.keep_rest(texts, len);
     }
     sending
 }

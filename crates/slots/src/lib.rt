@@ -35,18 +35,6 @@ fn next_room(room: usize) -> usize
     circle::after(Texts::SLOTS, room_of(room))
 }
 
-// What is left of what waits, after the bytes taken, is written to the next slot.
-pub fn keep_rest(texts: &mut [u8; Texts::SIZE], room: usize, len: usize, taken: usize)
-    ensures { texts.new ≡ rest_kept room len taken texts.old }
-{
-    let size = len.min(Texts::ROOM);
-    if taken < size {
-        let start = room_of(room) * Texts::ROOM;
-        let to = next_room(room) * Texts::ROOM;
-        texts.copy_within(start + taken..start + size, to);
-    }
-}
-
 // What waits: its slot, its length, its characters, and when its first byte was offered.
 #[repr(C)]
 #[derive(Clone, Copy, Default)]
@@ -67,6 +55,18 @@ impl Waiting {
             len: self.len.min(Texts::ROOM) + text.len(),
             characters: self.characters.min(Texts::ROOM) + characters.min(Texts::ROOM),
             since: if 0 < self.len { self.since } else { clock },
+        }
+    }
+
+    // What is left of it after the bytes taken is written to the next slot.
+    pub fn keep_rest(self, texts: &mut [u8; Texts::SIZE], taken: usize)
+        ensures { texts.new ≡ rest_kept self.room self.len taken texts.old }
+    {
+        let size = self.len.min(Texts::ROOM);
+        if taken < size {
+            let start = room_of(self.room) * Texts::ROOM;
+            let to = next_room(self.room) * Texts::ROOM;
+            texts.copy_within(start + taken..start + size, to);
         }
     }
 

@@ -1,3 +1,4 @@
+pub mod FirstOther
 pub mod Owes
 pub mod Chunks
 pub mod FrontStep

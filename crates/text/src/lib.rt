@@ -122,12 +122,11 @@ pub fn ascii_end(bytes: &[u8]) -> usize
     ensures { (result ≤ length bytes.now) × Every (λ b. b < 0x80) (take result bytes.now) × (result < length bytes.now → 0x80 ≤ get_or bytes.now result 0) }
 {
     let wide = ascii::wide_end(bytes);
-    for at in wide..bytes.len() {
-        if !bytes[at].is_ascii() {
-            return at;
-        }
-    }
-    bytes.len()
+    let rest = &bytes[wide..];
+    wide + rest
+        .iter()
+        .position(|byte| !byte.is_ascii())
+        .unwrap_or(rest.len())
 }
 
 // How many bytes the first characters have, so many at most. They end at a byte that begins no letter; a letter that the

@@ -1,3 +1,4 @@
+pub mod FromLast
 pub mod LastFirst
 pub mod Turns
 pub mod Headers

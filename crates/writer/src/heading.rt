@@ -78,10 +78,9 @@ fn put_heads(to: &mut [u8], t140: u8, carried: Carried)
     ensures { to.new ≡ over (headers_for t140 carried.tags carried.count) to.old }
 {
     let mut at = 0;
-    for i in (0..Packet::LEVEL).rev() {
-        let tag = carried.tags[i];
-        if 0 < tag {
-            put_head(&mut to[at..], t140, tag);
+    for tag in carried.tags.iter().rev() {
+        if 0 < *tag {
+            put_head(&mut to[at..], t140, *tag);
             at += 4;
         }
     }

@@ -41,7 +41,7 @@ fn put_text(to: &mut [u8], texts: &[u8; Texts::SIZE], room: usize, back: usize, 
     size
 }
 
-// Copies to the front.
+// Copies to the front. By places of the space: with a zip over its `iter_mut` the proof did not close.
 fn copy_few(src: &[u8], dst: &mut [u8])
     requires { length src.now ≤ length dst.old }
     ensures { dst.new ≡ over src.now dst.old }
@@ -52,7 +52,7 @@ fn copy_few(src: &[u8], dst: &mut [u8])
 }
 
 // The texts of the older blocks, the last of them first, and what waits. The loop is such that it is unrolled, as that of the block
-// headers is.
+// headers is. By a number, which says how many packets back a text is: std has no lemma on `enumerate().rev()`.
 pub fn put_texts(
     to: &mut [u8],
     texts: &[u8; Texts::SIZE],

@@ -9,8 +9,8 @@ abbrev pub invariant-loop-i : goal.invariant-loop-i
 invariant-loop-i l = record {
   count : l.count ≡ l.i;
   most : l.i ≤ l.most;
-  run : young_run l.clock (take l.most l.self.ats) ≡ l.i + young_run l.clock (drop l.i (take l.most l.self.ats));
-  text : l.text ≡ text_total (take l.i l.self.lens);
+  run : young_run l.clock (take l.most l.fn.self.ats) ≡ l.i + young_run l.clock (drop l.i (take l.most l.fn.self.ats));
+  text : l.text ≡ text_total (take l.i l.fn.self.lens);
   few : l.text ≤ room_size * l.i;
-  tags : l.tags ≡ tagged l.clock l.self.lens l.self.ats l.i;
+  tags : l.tags ≡ tagged l.clock l.fn.self.lens l.fn.self.ats l.i;
 }

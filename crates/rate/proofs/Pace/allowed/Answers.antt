@@ -1,8 +1,8 @@
-use Prim.Native.Nat.{ℕ, ◌+◌, ◌-◌, min}
+use Prim.Native.Nat.{ℕ, min}
 use mathlib.Core.Path.{◌≡◌, ◌∙◌, refl, ap, sym}
 use mathlib.Core.List.{List}
 use native.Mathlib.Omega.{arith}
-use Rattle.sender_spec.specs.Rate.{fits, allowed}
+use Rattle.sender_spec.specs.Rate.{allowed}
 use Rattle.rate.specs.Circle.{slots_of, slot_at, times_back, times_in}
 use Rattle.sender_spec.proofs.AllowedTurns.{allowed_fits, allowed_less, allowed_held}
 use Rattle.rate.proofs.Fits.{allowed_empty}
@@ -33,9 +33,8 @@ returns-then-may_leave c =
     let n = c.slots_of-slots.result in
     let at = c.place-at.result in
     let k = c.loop-fewer.fewer in
-    let e : k - 1 + 1 ≡ k = omega (arith, c.loop-fewer-test.true) in
     let times = times_back n a.log.now at (min a.self.used n) in
-    e ∙ sym (allowed_fits n times a.clock k (omega arith) (ap (λ (j : ℕ). fits n times a.clock j) (sym e) ∙ sym c.may_leave.ensures ∙ c.if-may_leave.true))
+    sym (allowed_fits n times a.clock k (omega arith) (sym c.may_leave.ensures ∙ c.if-may_leave.true))
     ∙ c.loop-fewer.invariant
     ∙ in_rate a.rate a.self.next a.self.used a.clock a.characters n c.min-most.result at a.log.now c.slots_of-slots.ensures.0 c.min-most.ensures c.place-at.ensures
 
@@ -44,9 +43,8 @@ loop-fewer-preserved c =
     let a = c.args in
     let n = c.slots_of-slots.result in
     let k = c.loop-fewer.fewer in
-    let e : k - 1 + 1 ≡ k = omega (arith, c.loop-fewer-test.true) in
     let times = times_back n a.log.now c.place-at.result (min a.self.used n) in
-    sym (allowed_less n times a.clock k (omega arith) (ap (λ (j : ℕ). fits n times a.clock j) (sym e) ∙ sym c.may_leave.ensures ∙ c.if-may_leave.false)) ∙ c.loop-fewer.invariant
+    sym (allowed_less n times a.clock k (omega arith) (sym c.may_leave.ensures ∙ c.if-may_leave.false)) ∙ c.loop-fewer.invariant
 
 pub returns : goal.returns
 returns c =
