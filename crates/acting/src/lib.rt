@@ -63,8 +63,8 @@ fn finish(counts: Counts, packet: &mut [u8]) -> Due
     Due::line(to)
 }
 
-// Where reading goes on, nothing is done. What is given is parts of a transcript, which stands above. The packet's `size` bytes are at the front of the lent buffer, and a line goes
-// there.
+// Where reading goes on, nothing is done. What is given is parts of a transcript, which stands above. The packet's `size` bytes are at
+// the front of the lent buffer, and a line goes there.
 pub fn act(part: Part, size: usize, receiver: Receiver, counts: Counts, packet: &mut [u8]) -> Acted
     ensures { Acts part size receiver counts packet.old result packet.new }
 {

@@ -109,8 +109,8 @@ pub fn is_late(answer: Result<Answer, Refusal>) -> bool
     matches!(answer, Ok(Answer::Late(_)))
 }
 
-// What a step answers, for a caller in C: the packet's course, and what it gives. A late packet and a jump have their distance alone; a
-// refused packet has nothing to tell. The text given is the packet's bytes from `from` up to `to`.
+// What a step answers, for a caller in C: the packet's course, and what it gives. A late packet and a jump have their distance
+// alone; a refused packet has nothing to tell. The text given is the packet's bytes from `from` up to `to`.
 #[repr(C)]
 #[derive(Clone, Copy, Default)]
 pub struct Step {

@@ -24,8 +24,8 @@ fn copy_piece(from: &[u8; RECORD], space: &mut [u8], at: usize)
     space[at..at + Part::PIECE].copy_from_slice(&piece);
 }
 
-// As many of the input's first n bytes as there are and fit. Answers how many. It has a bound more than printing's `put`: by way of that
-// one it is no shorter.
+// As many of the input's first n bytes as there are and fit. Answers how many. It has a bound more than printing's `put`: by way
+// of that one it is no shorter.
 pub fn put(n: usize, input: &[u8], space: &mut [u8]) -> usize
     ensures value { result ≡ min (min n (length input.now)) (length space.old) }
     ensures space_after { space.new ≡ over (take result input.now) space.old }
