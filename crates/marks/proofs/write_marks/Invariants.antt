@@ -1,7 +1,9 @@
+use Prim.Native.Nat.{◌*◌, ◌≤◌}
 use mathlib.Core.Path.{◌≡◌}
-use Rattle.base.specs.Arrays.{over}
+use lib.ListN.{length}
+use lib.Seq.{sets}
 use Rattle.receiver_spec.specs.Marks.{marks}
 use Rattle.marks.proofs.write_marks.Given as goal
 
 abbrev pub invariant-loop-k : goal.invariant-loop-k
-invariant-loop-k l = l.space ≡ over (marks l.k) l.initial.space
+invariant-loop-k l = (3 * l.written ≤ length l.space) × (l.space ≡ sets l.initial.space 0 (marks l.k))
