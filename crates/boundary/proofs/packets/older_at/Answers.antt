@@ -16,14 +16,14 @@ use Rattle.boundary.proofs.PacketRecords.{places_snoc, places_length}
 use Rattle.boundary.proofs.packets.older_at.Goals as goal
 
 -- the front of an array of no blocks
-front_long : (n : ℕ) → n ≤ 7 → length (take n (replicate 7 none)) ≡ n
-front_long n few = ap length (take-replicate n 7 none few) ∙ length-replicate n none
+front_long : (n : ℕ) → n ≤ level → length (take n (replicate level none)) ≡ n
+front_long n few = ap length (take-replicate n level none few) ∙ length-replicate n none
 
 pub loop-k-init : goal.loop-k-init
 unfolding level
 loop-k-init c =
     let n = c.args.count in
-    (omega arith, omega arith, take-replicate n 7 none c.requires.0 ∙ sym (ap (λ (k : ℕ). replicate k none) (omega arith)))
+    (omega arith, omega arith, take-replicate n level none c.requires.0 ∙ sym (ap (λ (k : ℕ). replicate k none) (omega arith)))
 
 pub loop-k-preserved : goal.loop-k-preserved
 unfolding level
@@ -32,7 +32,7 @@ loop-k-preserved c =
     let l = c.loop-k in
     let p = a.bytes.now in
     let all = heads_in a.count (drop a.from p) in
-    let here : l.k < length (take a.count (replicate 7 none)) = c.loop-k-test.true in
+    let here : l.k < length (take a.count (replicate level none)) = c.loop-k-test.true in
     let k_in : l.k < a.count = omega (arith, front_long a.count c.requires.0) in
     let long : length all ≡ a.count = heads_length a.count (drop a.from p) in
     let hs = take l.k all in
@@ -60,12 +60,12 @@ returns c =
     let a = c.args in
     let all = heads_in a.count (drop a.from a.bytes.now) in
     let places = head_places a.first all in
-    let past : length (take a.count (replicate 7 none)) ≤ l.k = c.loop-k-test.false in
+    let past : length (take a.count (replicate level none)) ≤ l.k = c.loop-k-test.false in
     let long : length all ≡ a.count = heads_length a.count (drop a.from a.bytes.now) in
     let full : length places ≡ a.count = places_length a.first all ∙ long in
     let front : l.block-items ≡ places =
     l.invariant.2
     ∙ ap (λ (x : List Head). filled none a.count (head_places a.first x)) (take_all l.k all (omega (arith, front_long a.count c.requires.0)))
     ∙ filled_whole none a.count places full in
-    ap (λ (x : List Older). x ++ drop a.count (replicate 7 none)) front
-    ∙ ap (λ (x : List Older). places ++ x) (drop-replicate a.count 7 none ∙ sym (ap (λ (n : ℕ). replicate (7 - n) none) full))
+    ap (λ (x : List Older). x ++ drop a.count (replicate level none)) front
+    ∙ ap (λ (x : List Older). places ++ x) (drop-replicate a.count level none ∙ sym (ap (λ (n : ℕ). replicate (level - n) none) full))
