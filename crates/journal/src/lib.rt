@@ -68,11 +68,12 @@ impl Transcript {
             used: 0,
             count: 0,
         };
-        if !state::is_ready(self) {
+        if !state::is_ready(self, packet.len()) {
             return nothing;
         }
         match packet.first_chunk_mut::<BUFFER>() {
             Some(front) => filling::fill(self, input, front, space),
+            // not reached: the buffer has the space
             None => nothing,
         }
     }
@@ -81,11 +82,12 @@ impl Transcript {
     pub fn stop(self, packet: &mut [u8]) -> Transcript
         ensures { Stopping self packet.old result packet.new }
     {
-        if !state::is_ready(self) {
+        if !state::is_ready(self, packet.len()) {
             return self;
         }
         match packet.first_chunk_mut::<BUFFER>() {
             Some(front) => settling::stop(self, front),
+            // not reached, as above
             None => self,
         }
     }

@@ -1,15 +1,16 @@
 // Whether calls on a transcript can go on, and whether reading can.
 ghost use Rattle.std.specs.Prelude.{◌≡◌, ◌&&◌, ltb};
-ghost use Rattle.journal.specs.Ready.{transcript_ready, hungry_now};
+ghost use Rattle.journal.specs.Ready.{ready_with, hungry_now};
 
 use crate::Transcript;
 
-// Whether these calls left the transcript. That they did stays a clause of the private functions: `Transcript` is public and
-// asks for nothing, so a ghost field would want a wrapper round it, made anew after each step.
-pub fn is_ready(s: Transcript) -> bool
-    ensures { result ≡ transcript_ready s }
+// Whether these calls left the transcript, and the lent buffer has the space. That these calls left it stays a clause of the
+// private functions: `Transcript` is public and asks for nothing, so a ghost field would want a wrapper round it, made anew after
+// each step.
+pub fn is_ready(s: Transcript, space: usize) -> bool
+    ensures { result ≡ ready_with s space }
 {
-    s.due.is_within() && s.counts.fit(s.left) && s.reader.is_sound()
+    s.due.is_within() && s.counts.fit(s.left) && s.reader.is_ready(space)
 }
 
 // Whether reading goes on, and nothing is due.

@@ -53,7 +53,7 @@ impl Reader {
         parts::is_sound(self.part, self.size, self.at)
     }
 
-    // And the lent buffer has the space. `records` and `journal` ask that by the buffer's type; a caller of a `Reader` asks here.
+    // And the lent buffer has the space.
     pub fn is_ready(self, space: usize) -> bool
         ensures { result ≡ reader_ready self space }
     {

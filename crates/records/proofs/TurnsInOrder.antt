@@ -2,7 +2,7 @@
 use Prim.Native.Nat.{ℕ, ◌+◌, ◌-◌, ◌<◌, ◌≤◌}
 use mathlib.Core.Path.{◌≡◌, ◌∙◌, refl, ap, sym}
 use mathlib.Core.List.{List, [], ◌∷◌, ◌++◌}
-use mathlib.Core.Bool.{Bool, true, false, ◌&&◌}
+use mathlib.Core.Bool.{Bool, true, false}
 use native.Mathlib.Omega.{arith}
 use lib.ListN.{length, take, drop, drop_of_length-le, length-drop}
 use lib.Seq.{drop-drop, length-take-le, take-take}
@@ -16,7 +16,7 @@ use Rattle.records.specs.Internal.Reading.{ReadAll, RecordsRead}
 use Rattle.records.specs.Internal.Turns.{Went, Turned, lent_after}
 use borrow.Author.Tests.{leb-true, le-leb, lt-leb}
 use lib.Dec.{leb}
-use Rattle.base.proofs.Tests.{and_left, and_right, and_false}
+use Rattle.base.proofs.Tests.{and_left, and_right}
 use Rattle.reading.proofs.Sound.{fits}
 use Rattle.base.proofs.Slices.{mid_rest}
 use Rattle.records.proofs.LentBuffer.{lends_all}
@@ -136,9 +136,6 @@ module _ (r : Reader) (p s : List ℕ) (long : longest_packet ≤ length p) (ok 
     keeps = stays;
   })
 
--- nothing is done where p is short, or r is not sound
+-- nothing is done where p is short
 pub too_short : (r : Reader) (p s : List ℕ) → length p < longest_packet → RecordsRead r p s r p 0
 too_short r p s h = rw (lt-leb longest_packet (length p) h) (record { reader = refl; packet = refl; none = refl })
-
-pub not_sound : (r : Reader) (p s : List ℕ) → sound r ≡ false → RecordsRead r p s r p 0
-not_sound r p s h = read_not r p s false (sym (and_false (leb longest_packet (length p))) ∙ ap (λ (b : Bool). leb longest_packet (length p) && b) (sym h)) refl

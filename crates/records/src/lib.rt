@@ -17,11 +17,12 @@ pub fn read(reader: Reader, input: &[u8], packet: &mut [u8]) -> Done
     ensures { RecordsRead reader packet.old input.now result.reader packet.new result.used }
 {
     let nothing = Done { reader, used: 0 };
-    if !reader.is_sound() {
+    if !reader.is_ready(packet.len()) {
         return nothing;
     }
     match packet.first_chunk_mut::<LONGEST>() {
         Some(front) => steps::run(reader, input, front),
+        // not reached: the buffer has the space
         None => nothing,
     }
 }
