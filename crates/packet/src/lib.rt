@@ -102,5 +102,5 @@ impl Packet {
 pub fn part(bytes: &[u8], from: usize, to: usize) -> &[u8]
     ensures { result.now ≡ Arrays.part from to bytes.now }
 {
-    bytes.get(from..to).unwrap_or(&[])
+    bytes.get(from..to).unwrap_or(&bytes[..0])
 }

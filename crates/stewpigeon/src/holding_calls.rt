@@ -36,8 +36,8 @@ fn store(
 {
     match made {
         Ok(made) => {
-            *receiver = made.receiver;
             *step = made.answer;
+            *receiver = made.receiver;
             0
         }
         Err(refusal) => u8::from(refusal),
