@@ -1,20 +1,26 @@
-use Prim.Native.Nat.{ℕ, ◌+◌, ◌*◌}
+use Prim.Native.Nat.{ℕ, suc, ◌+◌, ◌*◌, ◌<◌}
 use mathlib.Core.Path.{◌≡◌, ◌∙◌, refl, ap, sym}
 use mathlib.Core.List.{List}
+use mathlib.Core.Bool.{true}
 use native.Mathlib.Omega.{arith}
 use native.Mathlib.Numerals.{add-one}
 use lib.Dec.{leb}
-use lib.ListN.{length, set, take, length-take}
+use lib.ListN.{length, get_or, set, take, drop, length-take}
 use borrow.Author.Rules.{rules}
 use borrow.Author.Tests.{le-leb, lt-leb}
 use Rattle.delivery.specs.Run.{oldest_age}
 use Rattle.packet_spec.specs.Limits.{level}
-use Rattle.carrying.specs.Internal.Young.{young_run}
+use Rattle.carrying.specs.Internal.Young.{young, young_run}
 use Rattle.carrying.proofs.YoungRun.{run_more, run_stop, run_end}
 use Rattle.carrying.proofs.Tags.{tagged_more, tags_first}
 use Rattle.carrying.proofs.TextTotal.{total_more}
 use Rattle.carrying.proofs.Kept.run.Goals as goal
 use Rattle.carrying.proofs.Kept.run.Goals.{else-loop-i-test, then-loop-i-test+then-i-most, then-loop-i-test+else-i-most+then-age-gt-OLDEST}
+
+-- one more young block; `most` is found from what the invariant says of it
+run_next : (t : ℕ) (ats : List ℕ) (most k : ℕ) → young_run t (take most ats) ≡ k + young_run t (drop k (take most ats)) → k < most → k < length ats
+    → young t (get_or ats k 0) ≡ true → young_run t (take most ats) ≡ suc k + young_run t (drop (suc k) (take most ats))
+run_next t ats most k so before here e = omega (arith, so, run_more t ats most k before here e)
 
 pub loop-i-init : goal.loop-i-init
 unfolding level
@@ -41,7 +47,7 @@ loop-i-preserved c =
     record {
       count = omega arith;
       most = omega arith;
-      run = rw add-one (omega (arith, l.invariant.run, run_more a.clock k.ats a.most l.i (omega arith) (omega (arith, ats)) (sym young ∙ le-leb age.result oldest_age c.if-age-gt-OLDEST.false)));
+      run = rw add-one (run_next a.clock k.ats _ l.i l.invariant.run (omega arith) (omega (arith, ats)) (sym young ∙ le-leb age.result oldest_age c.if-age-gt-OLDEST.false));
       text = rw add-one (omega (arith, l.invariant.text, n.ensures, total_more k.lens l.i (omega (arith, lens))));
       few = omega (arith, n.ensures);
       tags =
